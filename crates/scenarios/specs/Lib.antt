@@ -1,0 +1,12 @@
+pub mod Masks
+pub mod Cells
+pub mod Letters
+pub mod Turns
+pub mod Fits
+pub mod Steps
+pub mod Canonical
+pub mod Scenarios
+pub mod Claims
+pub mod Worked
+pub mod Roles
+pub mod Refinements

@@ -1,0 +1,4 @@
+mod Ends
+mod Digits
+mod Fields
+mod Reading
