@@ -16,3 +16,5 @@ pub mod Parting
 pub mod Spelling
 pub mod Celling
 pub mod Rounding
+pub mod Ranging
+pub mod Placing

@@ -39,3 +39,8 @@ boundaries cs = ends cs % 2 ^ (total cs - 1)
 abbrev pub inner : List ℕ → ℕ → Bool
 inner [] i = false
 inner (c ∷ cs) i = cond (ltb i c) (ltb (i + 1) c) (inner cs (i - c))
+
+-- cells of these sizes as (start, len) ranges
+abbrev pub ranges-from : ℕ → List ℕ → List (ℕ × ℕ)
+ranges-from start [] = []
+ranges-from start (c ∷ cs) = (start, c) ∷ ranges-from (start + c) cs

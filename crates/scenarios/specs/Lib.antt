@@ -10,3 +10,4 @@ pub mod Claims
 pub mod Worked
 pub mod Roles
 pub mod Refinements
+pub mod Edges

@@ -4,8 +4,10 @@ ghost use Rattle.scenarios.specs.Worked.{Worked-totals, Worked-ranks};
 
 mod cell;
 mod draw;
+mod edge;
 mod mask;
 mod mode;
+mod place;
 mod refinement;
 mod role;
 mod round;

@@ -9,6 +9,7 @@ ghost use Rattle.scenarios.specs.Turns.{choices, choose, roles-in, subset};
 ghost use Rattle.scenarios.specs.Roles.{number, letters};
 
 use crate::mask::mask_contains;
+use crate::place::put_if;
 
 // What a participant that does not lead hears in a round, in role order.
 #[derive(Clone, Copy, PartialEq, Eq, Debug)]
@@ -66,20 +67,6 @@ fn role_at(place: usize) -> Role
     }
 }
 
-// The roles with one more at the place `next`, if it is chosen, and how many there are then.
-fn put_role(chosen: bool, roles: [Role; 4], next: usize, role: Role) -> ([Role; 4], usize)
-    requires { ⌜ next < 4 ⌝ }
-    ensures { λ r. ⌜ (r .0 ≡ cond chosen (set roles next role) roles) × (r .1 ≡ next + cond chosen 1 0) ⌝ }
-{
-    if chosen {
-        let mut out = roles;
-        out[next] = role;
-        (out, next + 1)
-    } else {
-        (roles, next)
-    }
-}
-
 // The roles of a choice, in role order from the first place on.
 fn roles_of(mask: u8) -> [Role; 4]
     ensures { λ r. ⌜ letters (take (length (roles-in mask)) r) ≡ roles-in mask ⌝ }
@@ -87,9 +74,7 @@ fn roles_of(mask: u8) -> [Role; 4]
     let mut roles = [Role::Outside; 4];
     let mut next: usize = 0;
     for bit in 0..4usize {
-        let (r, n) = put_role(mask_contains(mask as u64, bit), roles, next, role_at(bit));
-        roles = r;
-        next = n;
+        next = put_if(mask_contains(mask as u64, bit), &mut roles, next, role_at(bit));
     }
     roles
 }

@@ -1,0 +1,38 @@
+-- The walk of the code over the edges of a state, as the turn that it stands at.
+use mathlib.Core.Path.{_≡_}
+use mathlib.Core.List.{List, map}
+use Prim.Native.Nat.{ℕ, _≤_}
+use lib.ListN.{length, take}
+use Rattle.std.specs.shelf.Lists.{All}
+use Rattle.scenarios.specs.declared.refinement.LocalRefinement.{LocalRefinement}
+use Rattle.scenarios.specs.declared.edge.Edges.{Edges}
+use Rattle.scenarios.specs.Cells.{Cells-of, ranges-from}
+use Rattle.scenarios.specs.Turns.{Turn}
+use Rattle.scenarios.specs.Fits.{Fits}
+use Rattle.scenarios.specs.Refinements.{sizes}
+
+-- the splits of the first k cells
+abbrev pub fill-of : ℕ → List LocalRefinement → List (List ℕ)
+fill-of k rs = map sizes (take k rs)
+
+-- the sizes of the first k cells
+abbrev pub sizes-in : ℕ → List (ℕ × ℕ) → List ℕ
+sizes-in k rs = map (λ r. r .1) (take k rs)
+
+abbrev pub cells-at : Edges → List ℕ
+cells-at e = sizes-in (e .cells) (e .ranges)
+
+abbrev pub turn-at : Edges → Turn
+turn-at e = record { leader = e .leader; fill = fill-of (e .cells) (e .refinements) }
+
+-- what holds of a walk at each of its edges
+pub record Walking (e : Edges) : Type 0 where
+  pub some : 1 ≤ e .cells
+  pub within : e .n ≤ 64
+  pub long-ranges : length (e .ranges) ≡ 64
+  pub long-refinements : length (e .refinements) ≡ 64
+  pub few : e .cells ≤ 64
+  pub ranged : take (e .cells) (e .ranges) ≡ ranges-from 0 (cells-at e)
+  pub whole : Cells-of (e .n) (cells-at e)
+  pub fits : Fits (cells-at e) (turn-at e)
+  pub short : All (λ r. r .len ≤ 5) (take (e .cells) (e .refinements))
