@@ -18,3 +18,6 @@ pub mod Celling
 pub mod Rounding
 pub mod Ranging
 pub mod Placing
+pub mod Filling
+pub mod States
+pub mod Walkings

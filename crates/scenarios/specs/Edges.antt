@@ -1,15 +1,19 @@
 -- The walk of the code over the edges of a state, as the turn that it stands at.
 use mathlib.Core.Path.{_≡_}
+use mathlib.Core.Bool.{Bool, true, false}
 use mathlib.Core.List.{List, map}
 use Prim.Native.Nat.{ℕ, _≤_}
 use lib.ListN.{length, take}
 use Rattle.std.specs.shelf.Lists.{All}
+use Rattle.std.specs.declared.option.Option.{Option}
+use Rattle.std.specs.declared.option.Option.the-variants.{Some, None}
 use Rattle.scenarios.specs.declared.refinement.LocalRefinement.{LocalRefinement}
 use Rattle.scenarios.specs.declared.edge.Edges.{Edges}
 use Rattle.scenarios.specs.Cells.{Cells-of, ranges-from}
 use Rattle.scenarios.specs.Turns.{Turn}
 use Rattle.scenarios.specs.Fits.{Fits}
 use Rattle.scenarios.specs.Refinements.{sizes}
+use Rattle.scenarios.specs.Steps.{first-turn, next-turn}
 
 -- the splits of the first k cells
 abbrev pub fill-of : ℕ → List LocalRefinement → List (List ℕ)
@@ -36,3 +40,26 @@ pub record Walking (e : Edges) : Type 0 where
   pub whole : Cells-of (e .n) (cells-at e)
   pub fits : Fits (cells-at e) (turn-at e)
   pub short : All (λ r. r .len ≤ 5) (take (e .cells) (e .refinements))
+
+-- whether there is a next fill, and it is this one
+abbrev pub Stepped : Bool → Option (List (List ℕ)) → List (List ℕ) → Type 0
+Stepped true o f = o ≡ Some f
+Stepped false o f = o ≡ None
+
+-- the walk stands at the first edge of these cells of n participants
+pub record Begun (n : ℕ) (cs : List ℕ) (e : Edges) : Type 0 where
+  pub walking : Walking e
+  pub of : e .n ≡ n
+  pub at : cells-at e ≡ cs
+  pub first : turn-at e ≡ first-turn cs
+
+-- the walk has moved from e on to the next edge, or there was none
+pub record Moved (e f : Edges) : Type 0 where
+  pub walking : Walking f
+  pub of : f .n ≡ e .n
+  pub at : cells-at f ≡ cells-at e
+  pub next : next-turn (cells-at e) (turn-at e) ≡ Some (turn-at f)
+
+abbrev pub Advanced : Edges → Bool → Edges → Type 0
+Advanced e true f = Moved e f
+Advanced e false f = next-turn (cells-at e) (turn-at e) ≡ None

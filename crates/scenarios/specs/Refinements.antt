@@ -25,4 +25,4 @@ Composed ps (Some r) = (next-composition ps ≡ Some (take (r .1) (r .0))) × (r
 -- what a step to the next refinement answers
 abbrev pub Refined : Bool → List ℕ → Option LocalRefinement → Type 0
 Refined led ps None = next-split led ps ≡ None
-Refined led ps (Some r) = next-split led ps ≡ Some (sizes r)
+Refined led ps (Some r) = (next-split led ps ≡ Some (sizes r)) × (r .len ≤ 5)

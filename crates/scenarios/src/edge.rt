@@ -1,4 +1,13 @@
 // The edges of a residual state, walked in their order.
+ghost use mathlib.Core.Path.{_≡_};
+ghost use Prim.Native.Nat.{_<_, _≤_};
+ghost use lib.ListN.{length, take};
+ghost use Rattle.std.specs.shelf.Lists.{All};
+ghost use Rattle.scenarios.specs.Fits.{Fills};
+ghost use Rattle.scenarios.specs.Cells as cells;
+ghost use Rattle.scenarios.specs.Steps.{first-fill, next-fill};
+ghost use Rattle.scenarios.specs.Edges.{sizes-in, fill-of, Stepped, Walking, Begun, Advanced};
+use crate::cell::CellState;
 use crate::refinement::LocalRefinement;
 
 // A walk over the edges of a state: the cells of the state, the cell that leads, and how each cell is split.
@@ -13,4 +22,72 @@ pub(crate) struct Edges {
     pub(crate) leader: usize,
     // the split of each cell
     pub(crate) refinements: [LocalRefinement; 64],
+}
+
+// Moves on to the next splits of the cells: the last cell that has a next split takes it, and those behind it begin again.
+// False where no cell has one.
+fn next_splits(ranges: &[(usize, usize)], cells: usize, leader: usize, splits: &mut [LocalRefinement]) -> bool
+    requires room { ⌜ (cells ≤ length (now ranges)) × (cells ≤ length (now splits)) ⌝ }
+    requires filled { ⌜ Fills leader 0 (sizes-in cells (now ranges)) (fill-of cells (now splits)) ⌝ }
+    requires small { ⌜ All (λ c. (0 < c) × (c ≤ 64)) (sizes-in cells (now ranges)) ⌝ }
+    requires short { ⌜ All (λ r. r .len ≤ 5) (take cells (now splits)) ⌝ }
+    ensures stepped { λ r. ⌜ Stepped r (next-fill leader 0 (sizes-in cells (now (ranges .entry))) (fill-of cells (now (splits .entry)))) (fill-of cells (now (splits .exit))) ⌝ }
+    ensures short { λ r. ⌜ All (λ r. r .len ≤ 5) (take cells (now (splits .exit))) ⌝ }
+{
+    for i in (0..cells).rev() {
+        let (_, size) = ranges[i];
+        let led = i == leader;
+        match splits[i].next(size, led) {
+            Some(split) => {
+                splits[i] = split;
+                return true;
+            }
+            None => splits[i] = LocalRefinement::first(size, led),
+        }
+    }
+    false
+}
+
+// Sets each cell to its first split.
+fn first_splits(ranges: &[(usize, usize)], cells: usize, leader: usize, splits: &mut [LocalRefinement])
+    requires room { ⌜ (cells ≤ length (now ranges)) × (cells ≤ length (now splits)) ⌝ }
+    requires small { ⌜ All (λ c. (0 < c) × (c ≤ 64)) (sizes-in cells (now ranges)) ⌝ }
+    ensures begun { λ _. ⌜ fill-of cells (now (splits .exit)) ≡ first-fill leader 0 (sizes-in cells (now (ranges .entry))) ⌝ }
+    ensures short { λ _. ⌜ All (λ r. r .len ≤ 5) (take cells (now (splits .exit))) ⌝ }
+{
+    for i in 0..cells {
+        let (_, size) = ranges[i];
+        splits[i] = LocalRefinement::first(size, i == leader);
+    }
+}
+
+impl Edges {
+    // The walk over the edges of a state of `n` participants, at its first edge.
+    pub(crate) fn of(n: usize, state: CellState) -> Edges
+        requires { ⌜ (0 < n) × (n ≤ 64) ⌝ }
+        ensures { λ r. ⌜ Begun n (cells.cells n (state .boundaries)) r ⌝ }
+    {
+        let (ranges, cells) = state.ranges(n);
+        let mut refinements = [LocalRefinement { parts: [0; 5], len: 0 }; 64];
+        first_splits(&ranges, cells, 0, &mut refinements);
+        Edges { n, ranges, cells, leader: 0, refinements }
+    }
+
+    // Moves on to the next edge; false at the last.
+    pub(crate) fn advance(&mut self) -> bool
+        requires { ⌜ Walking (now self) ⌝ }
+        ensures { λ r. ⌜ Advanced (now (self .entry)) r (now (self .exit)) ⌝ }
+    {
+        let cells = self.cells;
+        let leader = self.leader;
+        if next_splits(&self.ranges, cells, leader, &mut self.refinements) {
+            return true;
+        }
+        if leader + 1 >= cells {
+            return false;
+        }
+        self.leader = leader + 1;
+        first_splits(&self.ranges, cells, leader + 1, &mut self.refinements);
+        true
+    }
 }

@@ -58,7 +58,7 @@ impl LocalRefinement {
     // The first refinement of a cell of `size`: its members stay together, but for a leader.
     pub(crate) fn first(size: usize, led: bool) -> LocalRefinement
         requires { ⌜ 0 < size ⌝ }
-        ensures { λ r. ⌜ sizes r ≡ first-split led size ⌝ }
+        ensures { λ r. ⌜ (sizes r ≡ first-split led size) × (r .len ≤ 5) ⌝ }
     {
         if !led {
             LocalRefinement { parts: [size, 0, 0, 0, 0], len: 1 }

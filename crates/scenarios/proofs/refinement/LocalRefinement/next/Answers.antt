@@ -51,4 +51,4 @@ returns c =
     let k = c .in-Continue-parts-2 .len in
     let s = led-step (c .args .self .parts) (c .args .self .len) (Some (take k q)) h (r .0) in
     let t : k < length q = omega arith in
-    led-next (c .args .led) (sizes (c .args .self)) _ (c .if-not-led .left) (s ∙ ap Some (sym (take-more-set q k 1 t)))
+    (led-next (c .args .led) (sizes (c .args .self)) _ (c .if-not-led .left) (s ∙ ap Some (sym (take-more-set q k 1 t))), omega arith)
