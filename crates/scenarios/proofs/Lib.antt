@@ -21,3 +21,7 @@ pub mod Placing
 pub mod Filling
 pub mod States
 pub mod Walkings
+pub mod Ending
+pub mod Weighing
+pub mod Drawing
+pub mod Edging

@@ -11,14 +11,11 @@ use Rattle.std.specs.Iters.{counting}
 use Rattle.std.specs.shelf.Lists.{All}
 use Rattle.std.proofs.shelf.Bits.{pow-pos, pow-add, shr-shr, mod-pow-add, mod-below}
 use Rattle.std.proofs.shelf.Counted.{length-map-counting}
+use Rattle.scenarios.proofs.Parting.{total-append}
 use Rattle.scenarios.specs.Masks.{bit}
 use Rattle.scenarios.specs.Cells.{total, Cells-of, cut, cells, ends, boundaries}
 
 -- sums and end masks of cells one after the other
-
-pub total-append : (ps qs : List ℕ) → total (ps ++ qs) ≡ total ps + total qs
-total-append [] qs = omega arith
-total-append (p ∷ ps) qs = let h = total-append ps qs in omega arith
 
 pub ends-append : (ps qs : List ℕ) → ends (ps ++ qs) ≡ ends ps + 2 ^ total ps * ends qs
 ends-append [] qs = omega arith

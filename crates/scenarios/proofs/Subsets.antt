@@ -129,3 +129,11 @@ collect-all m n i roles h i4 e =
     let q : letters (take n roles) ≡ roles-in m = e ∙ ap (λ k. kept-by (bit m) (counting 0 k)) i4 in
     let l : length (roles-in m) ≡ n = ap length (sym q) ∙ length-map (take n roles) number ∙ length-take-le n roles h in
     ap (λ k. letters (take k roles)) l ∙ q
+
+pub choose-most : (k : ℕ) → choose k ≤ 6
+choose-most zero = let t = choose-table .0 in omega arith
+choose-most (suc zero) = let t = choose-table .1 in omega arith
+choose-most (suc (suc zero)) = let t = choose-table .2 in omega arith
+choose-most (suc (suc (suc zero))) = let t = choose-table .3 in omega arith
+choose-most (suc (suc (suc (suc zero)))) = let t = choose-table .4 in omega arith
+choose-most (suc (suc (suc (suc (suc k))))) = let e = choose-past (suc (suc (suc (suc (suc k))))) (omega arith) in omega arith

@@ -22,6 +22,8 @@ use Rattle.scenarios.specs.Steps.{first-fill, next-fill, first-turn, next-turn
 use Rattle.scenarios.specs.Edges.{fill-of, sizes-in, cells-at, turn-at, Walking, Begun, Moved}
 use Rattle.scenarios.proofs.Composing.{through}
 use Rattle.scenarios.proofs.Walks.{turn, turn-from, next-turn-is, next-fits, first-fits}
+use Rattle.std.proofs.shelf.Elements.{all-getD}
+use Rattle.scenarios.proofs.Moving.{part-most}
 use Rattle.scenarios.proofs.States.{cells-stand}
 use Rattle.scenarios.proofs.Filling.{Short, sizes-long}
 
@@ -84,6 +86,12 @@ module _ (e : Edges) (w : Walking e) where
 
   long-cells : length (cells-at e) ≡ e .cells
   long-cells = sizes-long (e .cells) (e .ranges) (let a = w .long-ranges in let b = w .few in omega arith)
+
+  pub walk-some : 1 ≤ e .n
+  walk-some =
+      let some = all-getD (λ c. 0 < c) (cells-at e) 0 0 (omega (arith, long-cells, w .some)) (w .whole .filled) in
+      let most = part-most (cells-at e) 0 in
+      omega (arith, w .whole .whole)
 
   pub walk-stays : next-fill (e .leader) 0 (cells-at e) (fill-of (e .cells) (e .refinements)) ≡ None → e .cells ≤ e .leader + 1 → next-turn (cells-at e) (turn-at e) ≡ None
   walk-stays n h = stepped (cells-at e) (e .leader) (fill-of (e .cells) (e .refinements)) None n ∙ cond-false (ltb (e .leader + 1) (length (cells-at e))) _ _ (le-ltb (e .leader + 1) (length (cells-at e)) (omega (arith, long-cells)))

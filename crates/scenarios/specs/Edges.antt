@@ -9,8 +9,9 @@ use Rattle.std.specs.declared.option.Option.{Option}
 use Rattle.std.specs.declared.option.Option.the-variants.{Some, None}
 use Rattle.scenarios.specs.declared.refinement.LocalRefinement.{LocalRefinement}
 use Rattle.scenarios.specs.declared.edge.Edges.{Edges}
-use Rattle.scenarios.specs.Cells.{Cells-of, ranges-from}
-use Rattle.scenarios.specs.Turns.{Turn}
+use Rattle.scenarios.specs.declared.edge.TransitionEdge.{TransitionEdge}
+use Rattle.scenarios.specs.Cells.{Cells-of, ranges-from, boundaries}
+use Rattle.scenarios.specs.Turns.{Turn, after, weight}
 use Rattle.scenarios.specs.Fits.{Fits}
 use Rattle.scenarios.specs.Refinements.{sizes}
 use Rattle.scenarios.specs.Steps.{first-turn, next-turn}
@@ -63,3 +64,7 @@ pub record Moved (e f : Edges) : Type 0 where
 abbrev pub Advanced : Edges → Bool → Edges → Type 0
 Advanced e true f = Moved e f
 Advanced e false f = next-turn (cells-at e) (turn-at e) ≡ None
+
+-- the edge of a turn: the state after it, the cell that leads, and how many rounds it stands for
+abbrev pub edge-of : Turn → TransitionEdge
+edge-of t = record { next = record { boundaries = boundaries (after t) }; leader = t .leader; multiplicity = weight t }

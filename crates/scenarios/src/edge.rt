@@ -1,14 +1,23 @@
 // The edges of a residual state, walked in their order.
 ghost use mathlib.Core.Path.{_≡_};
-ghost use Prim.Native.Nat.{_<_, _≤_};
+ghost use Prim.Native.Nat.{_+_, _*_, _^_, _<_, _≤_};
 ghost use lib.ListN.{length, take};
 ghost use Rattle.std.specs.shelf.Lists.{All};
 ghost use Rattle.scenarios.specs.Fits.{Fills};
 ghost use Rattle.scenarios.specs.Cells as cells;
 ghost use Rattle.scenarios.specs.Steps.{first-fill, next-fill};
-ghost use Rattle.scenarios.specs.Edges.{sizes-in, fill-of, Stepped, Walking, Begun, Advanced};
+ghost use Rattle.scenarios.specs.Edges.{sizes-in, fill-of, Stepped, Walking, Begun, Advanced, turn-at, edge-of};
 use crate::cell::CellState;
+use crate::mask::set_mask_range;
 use crate::refinement::LocalRefinement;
+
+// An edge: the cells that a round leaves, the cell that leads in it, and how many rounds take that way.
+#[derive(Clone, Copy)]
+pub(crate) struct TransitionEdge {
+    pub(crate) next: CellState,
+    pub(crate) leader: usize,
+    pub(crate) multiplicity: u128,
+}
 
 // A walk over the edges of a state: the cells of the state, the cell that leads, and how each cell is split.
 #[derive(Clone, Copy)]
@@ -61,6 +70,22 @@ fn first_splits(ranges: &[(usize, usize)], cells: usize, leader: usize, splits: 
     }
 }
 
+// The mask with a bit at the last participant of each of the first `len` parts too, which begin at `start`.
+fn add_local_boundaries(mask: u64, start: usize, parts: [usize; 5], len: usize) -> u64
+    requires below { ⌜ mask < 2 ^ start ⌝ }
+    requires filled { ⌜ All (λ p. 0 < p) (take len parts) ⌝ }
+    requires within { ⌜ (start + cells.total (take len parts) ≤ 64) × (len ≤ 5) ⌝ }
+    ensures { λ r. ⌜ r ≡ mask + 2 ^ start * cells.ends (take len parts) ⌝ }
+{
+    let mut out = mask;
+    let mut end = start;
+    for j in 0..len {
+        end += parts[j];
+        out = set_mask_range(out, end - 1, 1);
+    }
+    out
+}
+
 impl Edges {
     // The walk over the edges of a state of `n` participants, at its first edge.
     pub(crate) fn of(n: usize, state: CellState) -> Edges
@@ -89,5 +114,23 @@ impl Edges {
         self.leader = leader + 1;
         first_splits(&self.ranges, cells, leader + 1, &mut self.refinements);
         true
+    }
+
+    // The edge at which the walk stands.
+    pub(crate) fn edge(&self) -> TransitionEdge
+        requires { ⌜ Walking (now self) ⌝ }
+        ensures { λ r. ⌜ r ≡ edge-of (turn-at (now (self .entry))) ⌝ }
+    {
+        let mut ends: u64 = 0;
+        let mut multiplicity: u128 = 1;
+        for i in 0..self.cells {
+            let (start, _) = self.ranges[i];
+            let split = self.refinements[i];
+            ends = add_local_boundaries(ends, start, split.parts, split.len);
+            multiplicity *= split.multiplicity(i == self.leader) as u128;
+        }
+        // no boundary stands after the last participant of all
+        let boundaries = ends & ((1 << (self.n - 1)) - 1);
+        TransitionEdge { next: CellState { boundaries }, leader: self.leader, multiplicity }
     }
 }

@@ -8,7 +8,10 @@ ghost use Rattle.std.specs.shelf.Lists.{All};
 ghost use Rattle.scenarios.specs.Cells.{total};
 ghost use Rattle.scenarios.specs.Fits.{Split};
 ghost use Rattle.scenarios.specs.Steps.{first-split, next-composition, next-split};
+ghost use Rattle.scenarios.specs.Turns.{ways};
 ghost use Rattle.scenarios.specs.Refinements.{sizes, Last-above, Composed, Refined};
+
+use crate::role::role_subset_count;
 
 // The sizes of the parts of a cell, the first `len` of them.
 #[derive(Clone, Copy, PartialEq, Eq, Debug)]
@@ -83,5 +86,14 @@ impl LocalRefinement {
         let (mut parts, len) = next_composition(parts, len - 1)?;
         parts[len] = 1;
         Some(LocalRefinement { parts, len: len + 1 })
+    }
+
+    // How many ways there are to give the parts their letters; a leader is placed in three ways.
+    pub(crate) fn multiplicity(self, led: bool) -> u64
+        requires short { ⌜ self .len ≤ 5 ⌝ }
+        requires some { ⌜ (led ≡ true → 0 < self .len) ⌝ }
+        ensures { λ r. ⌜ r ≡ ways led (sizes self) ⌝ }
+    {
+        if led { role_subset_count(self.len - 1) * 3 } else { role_subset_count(self.len) }
     }
 }
