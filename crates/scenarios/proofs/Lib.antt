@@ -25,3 +25,4 @@ pub mod Ending
 pub mod Weighing
 pub mod Drawing
 pub mod Edging
+pub mod Onward

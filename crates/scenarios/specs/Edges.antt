@@ -1,8 +1,8 @@
 -- The walk of the code over the edges of a state, as the turn that it stands at.
 use mathlib.Core.Path.{_≡_}
 use mathlib.Core.Bool.{Bool, true, false}
-use mathlib.Core.List.{List, map}
-use Prim.Native.Nat.{ℕ, _≤_}
+use mathlib.Core.List.{List, [], _∷_, map}
+use Prim.Native.Nat.{ℕ, zero, suc, _≤_}
 use lib.ListN.{length, take}
 use Rattle.std.specs.shelf.Lists.{All}
 use Rattle.std.specs.declared.option.Option.{Option}
@@ -11,7 +11,7 @@ use Rattle.scenarios.specs.declared.refinement.LocalRefinement.{LocalRefinemen
 use Rattle.scenarios.specs.declared.edge.Edges.{Edges}
 use Rattle.scenarios.specs.declared.edge.TransitionEdge.{TransitionEdge}
 use Rattle.scenarios.specs.Cells.{Cells-of, ranges-from, boundaries}
-use Rattle.scenarios.specs.Turns.{Turn, after, weight}
+use Rattle.scenarios.specs.Turns.{Turn, turns, after, weight}
 use Rattle.scenarios.specs.Fits.{Fits}
 use Rattle.scenarios.specs.Refinements.{sizes}
 use Rattle.scenarios.specs.Steps.{first-turn, next-turn}
@@ -68,3 +68,12 @@ Advanced e false f = next-turn (cells-at e) (turn-at e) ≡ None
 -- the edge of a turn: the state after it, the cell that leads, and how many rounds it stands for
 abbrev pub edge-of : Turn → TransitionEdge
 edge-of t = record { next = record { boundaries = boundaries (after t) }; leader = t .leader; multiplicity = weight t }
+
+-- the turns from t on, at most k of them
+abbrev pub onward : ℕ → List ℕ → Turn → List Turn
+onward zero cs t = []
+onward (suc k) cs t = t ∷ elim (next-turn cs t) [ None ↦ [] | Some u ↦ onward k cs u ]
+
+-- the turns that a walk has yet to see, from the one at which it stands
+unfoldable pub left-of : Edges → List Turn
+left-of e = onward (length (turns (cells-at e))) (cells-at e) (turn-at e)
