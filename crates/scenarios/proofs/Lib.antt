@@ -26,3 +26,4 @@ pub mod Weighing
 pub mod Drawing
 pub mod Edging
 pub mod Onward
+pub mod Planning

@@ -11,3 +11,4 @@ pub mod Worked
 pub mod Roles
 pub mod Refinements
 pub mod Edges
+pub mod Plans

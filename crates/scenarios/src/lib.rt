@@ -8,12 +8,14 @@ mod edge;
 mod mask;
 mod mode;
 mod place;
+mod plan;
 mod refinement;
 mod role;
 mod round;
 
 pub use cell::CellState;
 pub use mode::Mode;
+pub use plan::Plan;
 pub use mode::ModeDebug;
 pub use mode::ModePartialEq;
 pub use round::RoundScenario;
