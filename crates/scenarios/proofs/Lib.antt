@@ -27,3 +27,8 @@ pub mod Drawing
 pub mod Edging
 pub mod Onward
 pub mod Planning
+pub mod Locating
+pub mod ReadingBack
+pub mod CellsBack
+pub mod RoundsBack
+pub mod TurnsBack

@@ -1,12 +1,13 @@
 -- The turns that a walk has yet to see.
 use mathlib.Core.Path.{_≡_, refl, sym, ap, subst, _∙_}
-use mathlib.Core.List.{List, [], _∷_, _++_}
+use mathlib.Core.List.{List, [], _∷_, _++_, map}
 use Prim.Native.Nat.{ℕ, zero, suc, _+_, _<_, _≤_}
 use native.Mathlib.Omega.{arith}
-use lib.ListN.{length}
+use lib.ListN.{length, drop}
+use Rattle.std.specs.Finite.{nth}
 use Rattle.std.specs.declared.option.Option.{Option}
 use Rattle.std.specs.declared.option.Option.the-variants.{Some, None}
-use Rattle.std.proofs.shelf.Lists.{length-append, append-assoc}
+use Rattle.std.proofs.shelf.Lists.{length-append, append-assoc, drop-drop}
 use Rattle.scenarios.specs.declared.edge.Edges.{Edges}
 use Rattle.scenarios.specs.Cells.{Cells-of}
 use Rattle.scenarios.specs.Turns.{Turn, turns}
@@ -37,6 +38,13 @@ module _ (e : Edges) (w : Walking e) where
 
   pub left-among : Among (turns (cells-at e)) (turn-at e)
   left-among = turns-fit (e .n) (cells-at e) (w .whole) (turn-at e) .1 (w .fits)
+
+-- the turn at which the walk stands is the first that is left
+pub left-here : (e : Edges) → Walking e → (rest : List Turn) × (left-of e ≡ turn-at e ∷ rest)
+left-here e w = go (left-among e w)
+  where
+    go : Among (turns (cells-at e)) (turn-at e) → (rest : List Turn) × (left-of e ≡ turn-at e ∷ rest)
+    go (b, r, s) = (r, left-split e w b r s)
 
 -- at the start all turns are left
 pub left-begun : (n : ℕ) (cs : List ℕ) (e : Edges) → Begun n cs e → left-of e ≡ turns cs
@@ -88,3 +96,22 @@ left-ended e w n = go (left-among e w)
         next : (r′ : List Turn) → turns (cells-at e) ≡ b ++ (turn-at e ∷ r′) → next-turn (cells-at e) (turn-at e) ≡ first-of r′ → left-of e ≡ turn-at e ∷ []
         next [] s′ q = left-split e w b [] s′
         next (u ∷ r′) s′ q = absurd (let z = sym n ∙ q in let y : _≡_ {A = ℕ} 0 1 = cc in omega arith)
+
+-- the turn at a place
+
+pub drop-next : {X : Type 0} (xs : List X) (k : ℕ) (x : X) (rest : List X) → drop k xs ≡ x ∷ rest → drop (k + 1) xs ≡ rest
+drop-next xs k x rest e = sym (drop-drop 1 k xs) ∙ ap (drop 1) e
+
+pub nth-at : {X Y : Type 0} (f : X → Y) (xs : List X) (k : ℕ) (x : X) (rest : List X) → drop k xs ≡ x ∷ rest → nth (map f xs) k ≡ Some (f x)
+nth-at f [] zero x rest e = absurd (let z : _≡_ {A = ℕ} 0 1 = cc in omega arith)
+nth-at f [] (suc k) x rest e = absurd (let z : _≡_ {A = ℕ} 0 1 = cc in omega arith)
+nth-at f (y ∷ xs) zero x rest e = let z : y ≡ x = cc in ap (λ u. Some (f u)) z
+nth-at f (y ∷ xs) (suc k) x rest e = nth-at f xs k x rest e
+
+pub nth-past : {X Y : Type 0} (f : X → Y) (xs : List X) (j k : ℕ) (x : X) → drop j xs ≡ x ∷ [] → j < k → nth (map f xs) k ≡ None
+nth-past f [] j zero x e h = refl
+nth-past f [] j (suc k) x e h = refl
+nth-past f (y ∷ xs) zero zero x e h = absurd (omega arith)
+nth-past f (y ∷ xs) zero (suc k) x e h = let z : xs ≡ [] = cc in ap (λ l. nth (map f l) k) z
+nth-past f (y ∷ xs) (suc j) zero x e h = absurd (omega arith)
+nth-past f (y ∷ xs) (suc j) (suc k) x e h = nth-past f xs j k x e (omega arith)

@@ -1,16 +1,18 @@
 -- The walk of the code over the edges of a state, as the turn that it stands at.
 use mathlib.Core.Path.{_≡_}
-use mathlib.Core.Bool.{Bool, true, false}
+use mathlib.Core.Bool.{Bool, true, false, cond, _||_}
 use mathlib.Core.List.{List, [], _∷_, map}
 use Prim.Native.Nat.{ℕ, zero, suc, _≤_}
+use lib.Dec.{eqb, ltb}
 use lib.ListN.{length, take}
+use Rattle.std.specs.Finite.{nth}
 use Rattle.std.specs.shelf.Lists.{All}
 use Rattle.std.specs.declared.option.Option.{Option}
 use Rattle.std.specs.declared.option.Option.the-variants.{Some, None}
 use Rattle.scenarios.specs.declared.refinement.LocalRefinement.{LocalRefinement}
 use Rattle.scenarios.specs.declared.edge.Edges.{Edges}
 use Rattle.scenarios.specs.declared.edge.TransitionEdge.{TransitionEdge}
-use Rattle.scenarios.specs.Cells.{Cells-of, ranges-from, boundaries}
+use Rattle.scenarios.specs.Cells.{Cells-of, cells, ranges-from, boundaries}
 use Rattle.scenarios.specs.Turns.{Turn, turns, after, weight}
 use Rattle.scenarios.specs.Fits.{Fits}
 use Rattle.scenarios.specs.Refinements.{sizes}
@@ -77,3 +79,7 @@ onward (suc k) cs t = t ∷ elim (next-turn cs t) [ None ↦ [] | Some u ↦ onw
 -- the turns that a walk has yet to see, from the one at which it stands
 unfoldable pub left-of : Edges → List Turn
 left-of e = onward (length (turns (cells-at e))) (cells-at e) (turn-at e)
+
+-- the edge at a place, of a state of n participants
+abbrev pub edge-in : ℕ → ℕ → ℕ → Option TransitionEdge
+edge-in n s place = cond (eqb n 0 || ltb 64 n) None (nth (map edge-of (turns (cells n s))) place)

@@ -12,3 +12,4 @@ pub mod Roles
 pub mod Refinements
 pub mod Edges
 pub mod Plans
+pub mod Readings

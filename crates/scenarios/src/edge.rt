@@ -6,17 +6,17 @@ ghost use Rattle.std.specs.shelf.Lists.{All};
 ghost use Rattle.scenarios.specs.Fits.{Fills};
 ghost use Rattle.scenarios.specs.Cells as cells;
 ghost use Rattle.scenarios.specs.Steps.{first-fill, next-fill};
-ghost use Rattle.scenarios.specs.Edges.{sizes-in, fill-of, Stepped, Walking, Begun, Advanced, turn-at, edge-of};
+ghost use Rattle.scenarios.specs.Edges.{sizes-in, fill-of, Stepped, Walking, Begun, Advanced, turn-at, edge-of, edge-in};
 use crate::cell::CellState;
 use crate::mask::set_mask_range;
 use crate::refinement::LocalRefinement;
 
 // An edge: the cells that a round leaves, the cell that leads in it, and how many rounds take that way.
 #[derive(Clone, Copy)]
-pub(crate) struct TransitionEdge {
-    pub(crate) next: CellState,
-    pub(crate) leader: usize,
-    pub(crate) multiplicity: u128,
+pub struct TransitionEdge {
+    pub next: CellState,
+    pub leader: usize,
+    pub multiplicity: u128,
 }
 
 // A walk over the edges of a state: the cells of the state, the cell that leads, and how each cell is split.
@@ -133,4 +133,21 @@ impl Edges {
         let boundaries = ends & ((1 << (self.n - 1)) - 1);
         TransitionEdge { next: CellState { boundaries }, leader: self.leader, multiplicity }
     }
+}
+
+// The edge at this place of a state's edges, in their order; none where there are not so many, or where the participants
+// are none or above 64.
+pub fn edge_at(n: usize, state: CellState, place: usize) -> Option<TransitionEdge>
+    ensures { λ r. ⌜ r ≡ edge-in n (state .boundaries) place ⌝ }
+{
+    if n == 0 || n > 64 {
+        return None;
+    }
+    let mut edges = Edges::of(n, state);
+    for _ in 0..place {
+        if !edges.advance() {
+            return None;
+        }
+    }
+    Some(edges.edge())
 }

@@ -9,11 +9,14 @@ mod mask;
 mod mode;
 mod place;
 mod plan;
+mod read;
 mod refinement;
 mod role;
 mod round;
 
 pub use cell::CellState;
+pub use edge::TransitionEdge;
+pub use edge::edge_at;
 pub use mode::Mode;
 pub use plan::Plan;
 pub use mode::ModeDebug;
