@@ -32,3 +32,17 @@ pub mod ReadingBack
 pub mod CellsBack
 pub mod RoundsBack
 pub mod TurnsBack
+pub mod Canoning
+pub mod Members
+pub mod Fitting
+pub mod Counts
+pub mod Discovery
+pub mod Layers
+pub mod Levels
+pub mod Noted
+pub mod Settling
+pub mod Slots
+pub mod Turning
+pub mod Writes
+pub mod Finding
+pub mod Telling

@@ -1,12 +1,15 @@
 -- Legal and canonical scenarios, in the words of rounds, cells and role order.
 use mathlib.Core.Path.{_≡_}
-use mathlib.Core.Bool.{Bool, true, _||_}
+use mathlib.Core.Bool.{Bool, true, false, _||_}
 use mathlib.Core.Logic.{_≢_}
 use mathlib.Core.List.{List, [], _∷_, _++_}
-use Prim.Native.Nat.{ℕ, _+_, _^_, _<_, _≤_}
+use Prim.Native.Nat.{ℕ, _+_, _-_, _^_, _<_, _≤_}
 use lib.ListN.{length}
 use Rattle.std.specs.shelf.Lists.{All}
 use Rattle.scenarios.specs.declared.round.RoundScenario.{RoundScenario}
+use Rattle.std.specs.declared.option.Option.{Option}
+use Rattle.std.specs.declared.option.Option.the-variants.{Some, None}
+use Rattle.scenarios.specs.declared.cell.CellState.{CellState}
 use Rattle.scenarios.specs.Masks.{bit}
 use Rattle.scenarios.specs.Letters.{role}
 
@@ -44,3 +47,14 @@ pub record In-order (r : RoundScenario) (i j : ℕ) : Type 0 where
 abbrev pub Canonical : ℕ → List RoundScenario → Type 0
 Canonical n rs = (before : List RoundScenario) (r : RoundScenario) (rest : List RoundScenario)
     → rs ≡ before ++ (r ∷ rest) → (i j : ℕ) → i < j → j < n → One-cell before i j → In-order r i j
+
+-- the residual state after these rounds: bit i, for i + 1 below n, is set exactly where they part i from i + 1
+pub record Residual (n : ℕ) (rs : List RoundScenario) (s : ℕ) : Type 0 where
+  pub below : s < 2 ^ (n - 1)
+  pub whole : (i : ℕ) → i + 1 < n → bit s i ≡ false → Together rs i
+  pub parted : (i : ℕ) → i + 1 < n → bit s i ≡ true → Together rs i → ⊥
+
+-- the rounds are legal and canonical, and this is the state after them; or they are not
+abbrev pub Canonical-told : ℕ → List RoundScenario → Option CellState → Type 0
+Canonical-told n rs None = All (Legal-round n) rs → Canonical n rs → ⊥
+Canonical-told n rs (Some s) = All (Legal-round n) rs × Canonical n rs × Residual n rs (s .boundaries)

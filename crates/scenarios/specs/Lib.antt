@@ -13,3 +13,5 @@ pub mod Refinements
 pub mod Edges
 pub mod Plans
 pub mod Readings
+pub mod Counting
+pub mod Slots

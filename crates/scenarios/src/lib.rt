@@ -2,7 +2,9 @@
 ghost use Rattle.scenarios.specs.Claims.{Turns-fit, Turns-apart, Turns-begin, Turns-walk, Rounds-stand, Rounds-found, Rounds-apart, Ranks-correspond, Cells-residual, Repeats-canonical};
 ghost use Rattle.scenarios.specs.Worked.{Worked-totals, Worked-ranks};
 
+mod canon;
 mod cell;
+mod counting;
 mod draw;
 mod edge;
 mod mask;
