@@ -46,3 +46,4 @@ pub mod Turning
 pub mod Writes
 pub mod Finding
 pub mod Telling
+pub mod Stepping

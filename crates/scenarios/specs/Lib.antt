@@ -15,3 +15,4 @@ pub mod Plans
 pub mod Readings
 pub mod Counting
 pub mod Slots
+pub mod Unranking

@@ -200,3 +200,13 @@ pub(crate) fn suffix_count(slots: &[Slot], depth: usize, state: CellState) -> u6
 {
     value_of(slots, slots.len(), Place { depth, state })
 }
+
+// How many scenarios of so many rounds continue from a state at a depth. At the last depth there is one, with no search.
+pub(crate) fn continuations(slots: &[Slot], rounds: usize, depth: usize, state: CellState) -> u64
+    ensures { λ v. ⌜ ((n : ℕ) → take (length (counts.entries n rounds)) (now (slots .entry)) ≡ counts.entries n rounds → depth ≤ rounds → Among (counts.layer n depth) (state .boundaries) → v ≡ count (rounds - depth) (cells n (state .boundaries))) ⌝ }
+{
+    if depth >= rounds {
+        return 1;
+    }
+    suffix_count(slots, depth, state)
+}

@@ -15,6 +15,7 @@ mod read;
 mod refinement;
 mod role;
 mod round;
+mod unrank;
 
 pub use cell::CellState;
 pub use edge::TransitionEdge;
