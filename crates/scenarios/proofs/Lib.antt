@@ -47,3 +47,5 @@ pub mod Writes
 pub mod Finding
 pub mod Telling
 pub mod Stepping
+pub mod Modes
+pub mod Querying

@@ -197,3 +197,8 @@ unranked-all n R rank old ws i s left h e u =
       sym (take-append-drop i ws) ∙ ap (λ x. x ++ drop i ws) done ∙ ap (λ x. scenario R (n ∷ []) rank ++ x) (u .kept) ∙ ap (λ k. scenario R (n ∷ []) rank ++ drop k old) e,
       sym (layer-mask n i s h (u .layered)) ∙ ap boundaries cs,
     )
+
+-- a product above something has a factor above nothing
+pub some-factor : (left m v : ℕ) → left < m * v → 1 ≤ v
+some-factor left m zero h = absurd (omega arith)
+some-factor left m (suc v) h = omega arith

@@ -11,7 +11,7 @@ use Rattle.std.specs.shelf.Lists.{joined}
 use Rattle.scenarios.specs.Cells.{cells, boundaries}
 use Rattle.scenarios.specs.Turns.{turns, after}
 use Rattle.refusals.specs.declared.Refusal.{Refusal}
-use Rattle.refusals.specs.declared.Refusal.the-variants.{CountMemory, TotalTooLarge}
+use Rattle.refusals.specs.Refusals.{number-of}
 use Rattle.table.specs.declared.Entry.{Entry}
 use Rattle.scenarios.specs.declared.counting.Place.{Place}
 use Rattle.scenarios.specs.Scenarios.{count}
@@ -79,8 +79,8 @@ zero-slot = record { key = place 0 0; value = 0 }
 -- there are too few slots, or they suffice and the total is too large
 abbrev pub Cause : ℕ → ℕ → List Slot → Refusal → Type 0
 Cause n R xs e =
-    ((e ≡ CountMemory) × (length xs < length (entries n R)))
-    ⊎ ((e ≡ TotalTooLarge) × (length (entries n R) ≤ length xs) × (2 ^ 64 ≤ count R (n ∷ [])))
+    ((number-of e ≡ 8) × (length xs < length (entries n R)))
+    ⊎ ((number-of e ≡ 9) × (length (entries n R) ≤ length xs) × (2 ^ 64 ≤ count R (n ∷ [])))
 
 -- the refusal e has its cause, and all slots are empty then
 abbrev pub RefusedAs : ℕ → ℕ → List Slot → Refusal → List Slot → Type 0

@@ -16,3 +16,4 @@ pub mod Readings
 pub mod Counting
 pub mod Slots
 pub mod Unranking
+pub mod PlanCounts

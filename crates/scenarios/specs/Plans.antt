@@ -48,3 +48,10 @@ scenario-of Sustained n R k = repeated R (scenario 1 (n ∷ []) k)
 -- the cells that the scenario of rank k leaves
 abbrev pub residual-of : Mode → ℕ → ℕ → ℕ → List ℕ
 residual-of mode n R k = residual (depth-of mode R) (n ∷ []) k
+
+-- ranks below the total and canonical legal scenarios of a plan correspond one to one
+pub record Corresponds-in (mode : Mode) (n R : ℕ) : Type 0 where
+  pub legal : (k : ℕ) → k < total-of mode n R → Legal-in mode n R (scenario-of mode n R k)
+  pub canonical : (k : ℕ) → k < total-of mode n R → Canonical n (scenario-of mode n R k)
+  pub apart : (k j : ℕ) → k < total-of mode n R → j < total-of mode n R → scenario-of mode n R k ≡ scenario-of mode n R j → k ≡ j
+  pub found : (rs : List RoundScenario) → Legal-in mode n R rs → Canonical n rs → (k : ℕ) × (k < total-of mode n R) × (scenario-of mode n R k ≡ rs)

@@ -4,6 +4,8 @@ ghost use Rattle.scenarios.specs.Worked.{Worked-totals, Worked-ranks};
 
 mod canon;
 mod cell;
+mod count;
+mod counted;
 mod counting;
 mod draw;
 mod edge;
@@ -11,13 +13,19 @@ mod mask;
 mod mode;
 mod place;
 mod plan;
+mod query;
 mod read;
 mod refinement;
+mod repeat;
 mod role;
 mod round;
 mod unrank;
 
 pub use cell::CellState;
+pub use counted::CountRefused;
+pub use counted::CountedPlan;
+pub use counting::Place;
+pub use counting::Slot;
 pub use edge::TransitionEdge;
 pub use edge::edge_at;
 pub use mode::Mode;

@@ -1,29 +1,25 @@
 // A plan: how many participants, faults and rounds, in which mode, and how many cases at most.
 ghost use mathlib.Core.Path.{_≡_};
-ghost use Prim.Native.Nat.{_<_, _≤_};
 ghost use Rattle.std.specs.declared.option.Option.the-variants.{Some, None};
 ghost use Rattle.std.specs.declared.result.Result.the-variants.{Ok, Err};
 ghost use Rattle.refusals.specs.Refusals.{number-of};
-ghost use Rattle.scenarios.specs.Plans.{plan-fault};
+ghost use Rattle.scenarios.specs.Plans.{plan-fault, depth-of};
 use crate::mode::Mode;
 use refusals::Refusal;
 
 // A plan that has been checked. It moves on when it is counted, so it is neither `Copy` nor `Clone`.
+// It has no invariant, so that it can come back beside lent memory: counting tests the rules again.
 #[derive(Drop)]
 pub struct Plan {
-    participants: usize,
-    faults: usize,
-    rounds: usize,
-    mode: Mode,
-    cap: u64,
-    ghost enough: { (2 ≤ participants) × (participants ≤ 64) },
-    ghost compromised: { (0 < faults) × (faults < participants) },
-    ghost scripted: { (0 < rounds) × (rounds ≤ 64) },
-    ghost capped: { 0 < cap },
+    pub(crate) participants: usize,
+    pub(crate) faults: usize,
+    pub(crate) rounds: usize,
+    pub(crate) mode: Mode,
+    pub(crate) cap: u64,
 }
 
 // The first rule that a plan breaks.
-fn fault_in(participants: usize, faults: usize, rounds: usize, cap: u64) -> Option<Refusal>
+pub(crate) fn fault_in(participants: usize, faults: usize, rounds: usize, cap: u64) -> Option<Refusal>
     ensures { λ r. ⌜ elim r [ None ↦ plan-fault participants faults rounds cap ≡ None | Some e ↦ plan-fault participants faults rounds cap ≡ Some (number-of e) ] ⌝ }
 {
     if participants < 2 {
@@ -85,6 +81,16 @@ impl Plan {
         ensures { λ r. ⌜ r ≡ now (self .entry) .mode ⌝ }
     {
         self.mode
+    }
+
+    // How many rounds are counted: in sustained mode one stands for all.
+    pub(crate) fn depth(&self) -> usize
+        ensures { λ r. ⌜ r ≡ depth-of (now (self .entry) .mode) (now (self .entry) .rounds) ⌝ }
+    {
+        match self.mode {
+            Mode::Sampled => self.rounds,
+            Mode::Sustained => 1,
+        }
     }
 
     // How many cases a campaign has at most.
