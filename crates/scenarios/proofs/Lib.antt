@@ -49,3 +49,5 @@ pub mod Telling
 pub mod Stepping
 pub mod Modes
 pub mod Querying
+pub mod Passing
+pub mod Ranking

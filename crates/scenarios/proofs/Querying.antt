@@ -11,9 +11,12 @@ use Rattle.std.specs.declared.option.Option.{Option}
 use Rattle.std.specs.declared.option.Option.the-variants.{Some, None}
 use Rattle.std.specs.declared.result.Result.{Result}
 use Rattle.std.specs.declared.result.Result.the-variants.{Ok, Err}
-use Rattle.std.proofs.shelf.Lists.{append-nil, drop-drop}
+use Rattle.std.proofs.shelf.Lists.{append-nil, drop-drop, take-all, length-take-le}
 use Rattle.std.proofs.shelf.Tests.{lt-ltb, le-ltb, le-leb, lt-leb, cond-true, cond-false}
+use Rattle.std.specs.shelf.Lists.{All}
 use Rattle.refusals.specs.declared.Refusal.{Refusal}
+use Rattle.scenarios.specs.Canonical.{Legal-round, Canonical}
+use Rattle.scenarios.specs.Ranking.{Rank-told}
 use Rattle.scenarios.specs.declared.mode.Mode.{Mode}
 use Rattle.scenarios.specs.declared.mode.Mode.the-variants.{Sampled, Sustained}
 use Rattle.scenarios.specs.declared.plan.Plan.{Plan}
@@ -21,11 +24,11 @@ use Rattle.scenarios.specs.declared.round.RoundScenario.{RoundScenario}
 use Rattle.scenarios.specs.Counting.{Slot, entries, CountedAs, RefusedAs}
 use Rattle.scenarios.specs.Cells.{boundaries}
 use Rattle.scenarios.specs.Scenarios.{count, scenario, residual}
-use Rattle.scenarios.specs.Plans.{depth-of, total-of, scenario-of, residual-of, repeated, Corresponds-in}
-use Rattle.scenarios.specs.PlanCounts.{fault-of, Counted, Plan-counted, Plan-refused, scenario-fault}
+use Rattle.scenarios.specs.Plans.{depth-of, total-of, scenario-of, residual-of, repeated, All-alike, Legal-in, Corresponds-in}
+use Rattle.scenarios.specs.PlanCounts.{fault-of, Counted, Plan-counted, Plan-refused, scenario-fault, Shaped}
 use Rattle.scenarios.proofs.Planning.{plan-sound}
 use Rattle.scenarios.proofs.Finding.{counted-front}
-use Rattle.scenarios.proofs.Modes.{repeated-one, corresponds-in}
+use Rattle.scenarios.proofs.Modes.{repeated-one, corresponds-in, sustained-back, sustained-none}
 
 -- counting keeps its promise to the calls that follow
 pub count-told : (p : Plan) (xs ys : List Slot) (r : Result ℕ Refusal) (n D : ℕ) → n ≡ p .participants → D ≡ depth-of (p .mode) (p .rounds) → fault-of p ≡ None
@@ -80,3 +83,43 @@ sustained-told Sustained n R rank total D mem xs mid ys b sb q e p t f l c u y =
         (subst (λ k. rank < k) (t ∙ ap (λ k. count k (n ∷ [])) (sym e)) l) in
     let mids : mid ≡ scenario 1 (n ∷ []) rank ++ drop 1 xs = w .0 ∙ ap (λ k. scenario k (n ∷ []) rank ++ drop k xs) e in
     (repeated-rounds R (getD (scenario 1 (n ∷ []) rank) 0 b) b xs mid ys p mids y, w .1 ∙ ap (λ k. boundaries (residual k (n ∷ []) rank)) e)
+
+-- the rank of rounds of the plan's shape
+
+pub depth-within : (m : Mode) (R : ℕ) (rs : List RoundScenario) → 0 < R → Shaped m R rs → depth-of m R ≤ length rs
+depth-within Sampled R rs h s = omega arith
+depth-within Sustained R rs h s = let e = s .0 in omega arith
+
+-- the rank whose scenario the rounds are, or none where they are no canonical scenario
+abbrev pub Ranked : Mode → ℕ → ℕ → List RoundScenario → Option ℕ → Type 0
+Ranked m n R rs (Some k) = (k < total-of m n R) × (scenario-of m n R k ≡ rs)
+Ranked m n R rs None = Legal-in m n R rs → Canonical n rs → ⊥
+
+module _ (n R : ℕ) (rs script : List RoundScenario) (h : 0 < R) where
+  -- by the rounds that are ranked: all of them, or the one that stands for all
+  ranked-by : (m : Mode) (o : Option ℕ) → Shaped m R rs → script ≡ take (depth-of m R) rs → length script ≡ depth-of m R → Rank-told n script o → Ranked m n R rs o
+  ranked-by Sampled (Some k) s q l w =
+      let all : script ≡ rs = q ∙ take-all R rs (omega arith) in
+      (subst (λ d. k < count d (n ∷ [])) l (w .0), ap (λ d. scenario d (n ∷ []) k) (sym l) ∙ w .1 ∙ all)
+  ranked-by Sampled None s q l w = λ legal canonical.
+      let all : script ≡ rs = q ∙ take-all R rs (omega arith) in
+      w (subst (All (Legal-round n)) (sym all) (legal .each)) (subst (Canonical n) (sym all) canonical)
+  ranked-by Sustained (Some k) s q l w =
+      (subst (λ d. k < count d (n ∷ [])) l (w .0),
+      ap (repeated R) (ap (λ d. scenario d (n ∷ []) k) (sym l) ∙ w .1 ∙ q) ∙ sustained-back n R rs (record { leader = 0; primary = 0; secondary = 0 }) h (s .0) (s .1))
+  ranked-by Sustained None s q l w =
+      sustained-none n R rs h (λ a b. w (subst (All (Legal-round n)) (sym q) a) (subst (Canonical n) (sym q) b))
+
+pub ranked : (p : Plan) (total D : ℕ) (mem : List Slot) (rs script : List RoundScenario) (o : Option ℕ) → Counted p total mem → Shaped (p .mode) (p .rounds) rs → D ≡ depth-of (p .mode) (p .rounds) → script ≡ take D rs
+    → (count (length script) (p .participants ∷ []) < 2 ^ 64 → take (length (entries (p .participants) (length script))) mem ≡ entries (p .participants) (length script) → Rank-told (p .participants) script o)
+    → Ranked (p .mode) (p .participants) (p .rounds) rs o
+ranked p total D mem rs script o c s e q f =
+    let n = p .participants in
+    let m = p .mode in
+    let R = p .rounds in
+    let h = ruled p (c .rules) .2 in
+    let q′ : script ≡ take (depth-of m R) rs = q ∙ ap (λ d. take d rs) e in
+    let l : length script ≡ depth-of m R = ap length q′ ∙ length-take-le (depth-of m R) rs (depth-within m R rs h s) in
+    let small : count (length script) (n ∷ []) < 2 ^ 64 = subst (λ k. k < 2 ^ 64) (c .total-is ∙ ap (λ d. count d (n ∷ [])) (sym l)) (c .fits) in
+    let there : take (length (entries n (length script))) mem ≡ entries n (length script) = subst (λ d. take (length (entries n d)) mem ≡ entries n d) (sym l) (c .entries-are) in
+    ranked-by n R rs script h m o s q′ l (f small there)

@@ -17,3 +17,4 @@ pub mod Counting
 pub mod Slots
 pub mod Unranking
 pub mod PlanCounts
+pub mod Ranking

@@ -12,13 +12,15 @@ use Rattle.std.specs.declared.result.Result.{Result}
 use Rattle.std.specs.declared.result.Result.the-variants.{Ok, Err}
 use Rattle.refusals.specs.declared.Refusal.{Refusal}
 use Rattle.refusals.specs.Refusals.{number-of}
+use Rattle.scenarios.specs.declared.mode.Mode.{Mode}
+use Rattle.scenarios.specs.declared.mode.Mode.the-variants.{Sampled, Sustained}
 use Rattle.scenarios.specs.declared.plan.Plan.{Plan}
 use Rattle.scenarios.specs.declared.cell.CellState.{CellState}
 use Rattle.scenarios.specs.declared.round.RoundScenario.{RoundScenario}
 use Rattle.scenarios.specs.Cells.{boundaries}
 use Rattle.scenarios.specs.Canonical.{Canonical, Residual}
 use Rattle.scenarios.specs.Counting.{Slot, entries, CountedAs, RefusedAs}
-use Rattle.scenarios.specs.Plans.{plan-fault, depth-of, total-of, scenario-of, residual-of, Legal-in}
+use Rattle.scenarios.specs.Plans.{plan-fault, depth-of, total-of, scenario-of, residual-of, All-alike, Legal-in}
 
 -- the number of the first rule that a plan breaks; none, if it was made by the check
 abbrev pub fault-of : Plan → Option ℕ
@@ -68,13 +70,22 @@ Not-canonical p rs e =
     ((number-of e ≡ 7) × (64 < length rs))
     ⊎ ((number-of e ≡ 17) × (length rs ≤ 64) × (Legal-in (p .mode) (p .participants) (p .rounds) rs → Canonical (p .participants) rs → ⊥))
 
+-- as many rounds as the plan has, in sustained mode all alike
+abbrev pub Shaped : Mode → ℕ → List RoundScenario → Type 0
+Shaped Sampled R rs = length rs ≡ R
+Shaped Sustained R rs = (length rs ≡ R) × All-alike rs
+
+abbrev pub Shape-told : Plan → List RoundScenario → Option Refusal → Type 0
+Shape-told p rs None = Shaped (p .mode) (p .rounds) rs × (length rs ≤ 64)
+Shape-told p rs (Some e) = Not-canonical p rs e
+
 -- the rank whose scenario these rounds are
 abbrev pub Rank-answered : Plan → List RoundScenario → Result ℕ Refusal → Type 0
 Rank-answered p rs (Ok k) = (k < total-of (p .mode) (p .participants) (p .rounds)) × (scenario-of (p .mode) (p .participants) (p .rounds) k ≡ rs)
 Rank-answered p rs (Err e) = Not-canonical p rs e
 
--- the state that these rounds leave, if they are a canonical scenario of the plan
+-- the state that these rounds leave, if they are a canonical scenario of a plan that breaks no rule
 abbrev pub Canonical-answered : Plan → List RoundScenario → Result CellState Refusal → Type 0
 Canonical-answered p rs (Ok s) =
-    Legal-in (p .mode) (p .participants) (p .rounds) rs × Canonical (p .participants) rs × Residual (p .participants) rs (s .boundaries)
-Canonical-answered p rs (Err e) = Not-canonical p rs e
+    (fault-of p ≡ None) × Legal-in (p .mode) (p .participants) (p .rounds) rs × Canonical (p .participants) rs × Residual (p .participants) rs (s .boundaries)
+Canonical-answered p rs (Err e) = (fault-of p ≡ Some (number-of e)) ⊎ ((fault-of p ≡ None) × Not-canonical p rs e)

@@ -14,6 +14,7 @@ mod mode;
 mod place;
 mod plan;
 mod query;
+mod rank;
 mod read;
 mod refinement;
 mod repeat;
