@@ -5,7 +5,7 @@ use refusals::Refusal;
 
 // A counted plan. Its memory is held for reading till the plan is let go.
 // An enum that holds a reference holds no struct with an invariant, so what counting promises of the memory is a premise of
-// the calls below, and no call rests on it to be safe.
+// the calls on a counted plan, and none of them rests on it to be safe.
 #[derive(Drop)]
 pub struct CountedPlan<'a> {
     pub(crate) plan: Plan,
