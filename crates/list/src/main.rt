@@ -62,7 +62,13 @@ fn plan_in(text: &[u8]) -> Result<Plan, Refusal>
     ensures { λ r. ⌜ elim r [ Ok p ↦ Planned (now (text .entry)) p | Err e ↦ Unplanned (now (text .entry)) e ] ⌝ }
 {
     let line = read_plan_line(text)?;
-    Plan::new(line.participants as usize, line.faults as usize, line.rounds as usize, line.mode, line.cap as u64)
+    Plan::new(
+        line.participants as usize,
+        line.faults as usize,
+        line.rounds as usize,
+        line.mode,
+        line.cap as u64,
+    )
 }
 
 // The same item, n times, on the heap: the count memory is too large for the stack.
@@ -77,7 +83,12 @@ fn repeated<T: Copy>(heap: Global, item: T, n: usize) -> Result<Vec<T>, AllocErr
 }
 
 // Prints a line for each rank below `listed`. The rounds are written over for each.
-fn print_scenarios<W: Write>(out: &mut W, counted: &CountedPlan<'_>, listed: u64, rounds: &mut [RoundScenario]) -> io::Result<()> {
+fn print_scenarios<W: Write>(
+    out: &mut W,
+    counted: &CountedPlan<'_>,
+    listed: u64,
+    rounds: &mut [RoundScenario],
+) -> io::Result<()> {
     for rank in 0..listed {
         match counted.scenario(rank, rounds) {
             Ok(_) => {
@@ -96,13 +107,31 @@ fn print_listing<W: Write>(out: &mut W, heap: Global, plan: Plan) -> io::Result<
     let participants = plan.participants();
     let rounds = plan.rounds();
     let cap = plan.cap();
-    let slot = Entry { key: Place { depth: 0, state: CellState::initial() }, value: 0 };
+    let slot = Entry {
+        key: Place {
+            depth: 0,
+            state: CellState::initial(),
+        },
+        value: 0,
+    };
     let mut memory: Vec<Slot> = repeated(heap, slot, SLOTS)?;
-    let mut script = repeated(heap, RoundScenario { leader: 0, primary: 0, secondary: 0 }, rounds)?;
+    let mut script = repeated(
+        heap,
+        RoundScenario {
+            leader: 0,
+            primary: 0,
+            secondary: 0,
+        },
+        rounds,
+    )?;
     match plan.count(memory.as_mut_slice()) {
         Ok(counted) => {
             let total = counted.total();
-            let header = Header { participants, rounds, total };
+            let header = Header {
+                participants,
+                rounds,
+                total,
+            };
             writeln!(out, "{header}")?;
             print_scenarios(out, &counted, total.min(cap), script.as_mut_slice())
         }
@@ -148,8 +177,16 @@ mod tests {
     #[test]
     fn listings(rt: LibcRuntime) -> Result<(), Fail> {
         let heap = rt.alloc();
-        answers(heap, "2 1 1 s 2\n", "participants 2 rounds 1 scenarios 12\n0 1:2:0\n1 1:0:2\n")?;
-        answers(heap, "7 2 3 u 2\n", "participants 7 rounds 3 scenarios 252\n0 6:64:0 6:64:0 6:64:0\n1 6:0:64 6:0:64 6:0:64\n")
+        answers(
+            heap,
+            "2 1 1 s 2\n",
+            "participants 2 rounds 1 scenarios 12\n0 1:2:0\n1 1:0:2\n",
+        )?;
+        answers(
+            heap,
+            "7 2 3 u 2\n",
+            "participants 7 rounds 3 scenarios 252\n0 6:64:0 6:64:0 6:64:0\n1 6:0:64 6:0:64 6:0:64\n",
+        )
     }
 
     #[test]

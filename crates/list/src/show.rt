@@ -18,8 +18,15 @@ pub(crate) impl fmt::Display for Header as HeaderDisplay {
     ghost shown = { λ h. Some (shown-as.header (h .participants) (h .rounds) (h .total)) };
 
     fn fmt<W: fmt::Write>(&self, f: &mut fmt::Formatter<W>) -> fmt::Result {
-        let Header { participants, rounds, total } = *self;
-        write!(f, "participants {participants} rounds {rounds} scenarios {total}")
+        let Header {
+            participants,
+            rounds,
+            total,
+        } = *self;
+        write!(
+            f,
+            "participants {participants} rounds {rounds} scenarios {total}"
+        )
     }
 }
 
@@ -33,7 +40,11 @@ pub(crate) impl fmt::Display for Item as ItemDisplay {
     ghost shown = { λ x. Some (shown-as.item (x .round)) };
 
     fn fmt<W: fmt::Write>(&self, f: &mut fmt::Formatter<W>) -> fmt::Result {
-        let RoundScenario { leader, primary, secondary } = self.round;
+        let RoundScenario {
+            leader,
+            primary,
+            secondary,
+        } = self.round;
         write!(f, " {leader}:{primary}:{secondary}")
     }
 }

@@ -6,7 +6,6 @@ use Rattle.std.specs.Options.{isSome}
 use Rattle.std.specs.declared.option.Option.{Option}
 use Rattle.std.specs.declared.option.Option.the-variants.{Some, None}
 use Rattle.scenarios.specs.declared.edge.TransitionEdge.{TransitionEdge}
-use Rattle.scenarios.specs.declared.round.RoundScenario.{RoundScenario}
 use Rattle.scenarios.specs.Edges.{edge-in}
 
 -- there is an edge, to the state `next`, led by the cell `leader`, and it stands for w rounds
@@ -17,6 +16,3 @@ edge-told (Some e) next leader w = eqb (e .next .boundaries) next && (eqb (e .le
 -- the state s has as many edges as the count
 abbrev pub edges-told : ℕ → ℕ → ℕ → Bool
 edges-told n s count = ltb 0 count && (isSome (edge-in n s (count - 1)) && not (isSome (edge-in n s count)))
-
-abbrev pub rounds-alike : RoundScenario → RoundScenario → Bool
-rounds-alike a b = eqb (a .leader) (b .leader) && (eqb (a .primary) (b .primary) && eqb (a .secondary) (b .secondary))

@@ -2,7 +2,7 @@
 // question is refused.
 ghost use mathlib.Core.Path.{_≡_};
 ghost use Rattle.scenarios.specs.Edges.{edge-in};
-ghost use Rattle.replay.specs.Told.{edge-told, edges-told, rounds-alike};
+ghost use Rattle.replay.specs.Told.{edge-told, edges-told};
 use crate::tally::Kind;
 use crate::words::read_number;
 use crate::words::read_plan;
@@ -10,6 +10,7 @@ use crate::words::read_rounds;
 use scenarios::CellState;
 use scenarios::Plan;
 use scenarios::RoundScenario;
+use scenarios::RoundScenarioPartialEq;
 use scenarios::Slot;
 use scenarios::edge_at;
 use std::str::SplitWhitespace;
@@ -41,7 +42,9 @@ fn edge_is(n: usize, boundaries: u64, place: usize, next: u64, leader: usize, ro
     ensures { λ r. ⌜ r ≡ edge-told (edge-in n boundaries place) next leader rounds ⌝ }
 {
     match edge_at(n, CellState { boundaries }, place) {
-        Some(e) => e.next.boundaries == next && e.leader == leader && e.multiplicity == rounds as u128,
+        Some(e) => e.next.boundaries == next
+            && e.leader == leader
+            && e.multiplicity == rounds as u128,
         None => false,
     }
 }
@@ -53,13 +56,14 @@ fn edge_agrees(words: &mut SplitWhitespace<'_>) -> Option<bool> {
     let next = read_number(words)?;
     let leader = read_number(words)?;
     let rounds = read_number(words)?;
-    Some(edge_is(n as usize, state, place as usize, next, leader as usize, rounds))
-}
-
-fn same_round(a: RoundScenario, b: RoundScenario) -> bool
-    ensures { λ r. ⌜ r ≡ rounds-alike a b ⌝ }
-{
-    a.leader == b.leader && a.primary == b.primary && a.secondary == b.secondary
+    Some(edge_is(
+        n as usize,
+        state,
+        place as usize,
+        next,
+        leader as usize,
+        rounds,
+    ))
 }
 
 fn same_rounds(a: &[RoundScenario], b: &[RoundScenario]) -> bool {
@@ -67,7 +71,7 @@ fn same_rounds(a: &[RoundScenario], b: &[RoundScenario]) -> bool {
         return false;
     }
     for i in 0..a.len() {
-        if !same_round(a[i], b[i]) {
+        if a[i] != b[i] {
             return false;
         }
     }
@@ -91,7 +95,13 @@ fn cells_agree(words: &mut SplitWhitespace<'_>, n: usize, state: CellState) -> O
 
 // A scenario has to be canonical, to be found by its rank, and to have the rank that finds it; both ways the same cells are
 // left. Stored and found rounds have as many slots as the plan has rounds.
-fn scenario_agrees(words: &mut SplitWhitespace<'_>, plan: Plan, stored: &mut [RoundScenario], found: &mut [RoundScenario], memory: &mut [Slot]) -> Option<bool> {
+fn scenario_agrees(
+    words: &mut SplitWhitespace<'_>,
+    plan: Plan,
+    stored: &mut [RoundScenario],
+    found: &mut [RoundScenario],
+    memory: &mut [Slot],
+) -> Option<bool> {
     let n = plan.participants();
     let rank = read_number(words)?;
     read_rounds(words, stored)?;
@@ -110,14 +120,22 @@ fn unrank_agrees(words: &mut SplitWhitespace<'_>, memory: &mut [Slot]) -> Option
     if len > 64 {
         return None;
     }
-    let nothing = RoundScenario { leader: 0, primary: 0, secondary: 0 };
+    let nothing = RoundScenario {
+        leader: 0,
+        primary: 0,
+        secondary: 0,
+    };
     let mut stored = [nothing; 64];
     let mut found = [nothing; 64];
     scenario_agrees(words, plan, &mut stored[0..len], &mut found[0..len], memory)
 }
 
 // Whether the answer of a question agrees; the words behind its answer are left over.
-pub(crate) fn agrees(kind: Kind, words: &mut SplitWhitespace<'_>, memory: &mut [Slot]) -> Option<bool> {
+pub(crate) fn agrees(
+    kind: Kind,
+    words: &mut SplitWhitespace<'_>,
+    memory: &mut [Slot],
+) -> Option<bool> {
     match kind {
         Kind::Total => total_agrees(words, memory),
         Kind::Edges => edges_agree(words),

@@ -36,7 +36,13 @@ const SLOTS: usize = 40000;
 fn count_memory(heap: Global) -> Result<Vec<Slot>, AllocError> {
     let mut slots = Vec::with_capacity(heap, SLOTS)?;
     for _ in 0..SLOTS {
-        slots.push(Entry { key: Place { depth: 0, state: CellState::initial() }, value: 0 })?;
+        slots.push(Entry {
+            key: Place {
+                depth: 0,
+                state: CellState::initial(),
+            },
+            value: 0,
+        })?;
     }
     Ok(slots)
 }
@@ -48,7 +54,8 @@ fn replay_line(line: &str, memory: &mut [Slot], tallies: &mut Tallies) -> bool {
     match words.next() {
         Some(word) => match kind_of(word) {
             Some(kind) => {
-                let agreed = agrees(kind, &mut words, memory) == Some(true) && words.next().is_none();
+                let agreed = agrees(kind, &mut words, memory) == Some(true)
+                    && words.next().is_none();
                 tallies.note(kind, agreed);
                 agreed
             }
@@ -70,7 +77,12 @@ fn main(rt: LibcRuntime) -> io::Result<()> {
             writeln!(out, "line {number} does not agree")?;
         }
     }
-    let Tallies { total, edges, edge, unrank } = tallies;
+    let Tallies {
+        total,
+        edges,
+        edge,
+        unrank,
+    } = tallies;
     writeln!(out, "total {} of {} agree", total.agreed, total.asked)?;
     writeln!(out, "edges {} of {} agree", edges.agreed, edges.asked)?;
     writeln!(out, "edge {} of {} agree", edge.agreed, edge.asked)?;

@@ -33,7 +33,11 @@ impl Tally {
     {
         Tally {
             asked: self.asked.saturating_add(1),
-            agreed: if agrees { self.agreed.saturating_add(1) } else { self.agreed },
+            agreed: if agrees {
+                self.agreed.saturating_add(1)
+            } else {
+                self.agreed
+            },
         }
     }
 }
@@ -43,8 +47,16 @@ impl Tallies {
     pub(crate) fn none() -> Tallies
         ensures { λ r. ⌜ r ≡ record { total = tell.no-tally; edges = tell.no-tally; edge = tell.no-tally; unrank = tell.no-tally } ⌝ }
     {
-        let nothing = Tally { asked: 0, agreed: 0 };
-        Tallies { total: nothing, edges: nothing, edge: nothing, unrank: nothing }
+        let nothing = Tally {
+            asked: 0,
+            agreed: 0,
+        };
+        Tallies {
+            total: nothing,
+            edges: nothing,
+            edge: nothing,
+            unrank: nothing,
+        }
     }
 
     // One question more of this kind; the other tallies stay.

@@ -47,7 +47,10 @@ fn round_of(word: &str) -> Option<RoundScenario> {
 }
 
 // Fills the slots with the rounds that come next, and passes over the bar that ends them; none where there are not as many.
-pub(crate) fn read_rounds(words: &mut SplitWhitespace<'_>, rounds: &mut [RoundScenario]) -> Option<()> {
+pub(crate) fn read_rounds(
+    words: &mut SplitWhitespace<'_>,
+    rounds: &mut [RoundScenario],
+) -> Option<()> {
     for i in 0..rounds.len() {
         rounds[i] = round_of(words.next()?)?;
     }

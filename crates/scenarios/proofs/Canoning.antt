@@ -48,7 +48,8 @@ module _ (n : ℕ) (h : 0 < n) (rs : List RoundScenario) (i s : ℕ) (so : Read 
         legal = subst (All (Legal-round n)) grows (all-push (Legal-round n) (take i rs) (round t k) (so .legal) (st .legal));
         follows = subst (Follows n []) grows (follows-push n [] (take i rs) (round t k) (so .follows) (λ j lj tg. st .ordered j lj (so .tied j lj .1 tg)));
         tied = subst (λ c. Tied n c (take (i + 1) rs)) (sym (cells-boundaries n (after t) h (st .cells)) ∙ ap (cells n) q)
-          (subst (Tied n (after t)) grows (tied-step n (cells n s) t k (take i rs) st (so .tied))) }
+            (subst (Tied n (after t)) grows (tied-step n (cells n s) t k (take i rs) st (so .tied)));
+      }
 
   -- a round that is not legal, or not in order, is not of a canonical scenario
   pub read-none : (Legal-round n (getD rs i d) → Ordered n (cells n s) (getD rs i d) → ⊥) → All (Legal-round n) rs → Canonical n rs → ⊥
@@ -97,12 +98,12 @@ inner-cells n s i h =
 
 pub read-all : (n i s : ℕ) (rs : List RoundScenario) → length rs ≤ i → Read n rs i s → All (Legal-round n) rs × Canonical n rs × Residual n rs s
 read-all n i s rs h so =
-    let e = take-all i rs h in
-    (
+    let e = take-all i rs h in (
       subst (All (Legal-round n)) e (so .legal),
       canonical-to n rs (subst (Follows n []) e (so .follows)),
       record {
         below = so .below;
         whole = λ j l b. subst (λ x. Together x j) e (so .tied j l .0 (inner-cells n s j l ∙ ap not b));
-        parted = λ j l b t. false≢true (sym (ap not b) ∙ sym (inner-cells n s j l) ∙ so .tied j l .1 (subst (λ x. Together x j) (sym e) t)) },
+        parted = λ j l b t. false≢true (sym (ap not b) ∙ sym (inner-cells n s j l) ∙ so .tied j l .1 (subst (λ x. Together x j) (sym e) t));
+      },
     )

@@ -59,7 +59,8 @@ pub drawn-more : (r : RoundScenario) (start : ℕ) (parts : List ℕ) (roles : L
 drawn-more r start parts roles j at old new h k d e = record {
   place = omega (arith, total-more parts j h, d .place);
   same = e ∙ ap (λ q. grown q at (replicate p x)) (d .same) ∙ grown-more r start at word (replicate p x) (omega (arith, long, d .place)) ∙ ap (grown r start) (sym spelled);
-  below = subst (λ q. Below (at + p) q) (sym e) (grown-below old at (at + p) (replicate p x) (omega (arith, length-replicate p x)) (d .below)) }
+  below = subst (λ q. Below (at + p) q) (sym e) (grown-below old at (at + p) (replicate p x) (omega (arith, length-replicate p x)) (d .below));
+}
   where
     p : ℕ
     p = getD parts j 0
@@ -101,7 +102,8 @@ grown-leader : (r : RoundScenario) (at d : ℕ) → d < 3 → grown r at ((3 - d
 grown-leader r at d h = λ i. record {
   leader = r .leader;
   primary = r .primary + 2 ^ at * (cond (leader-bits d h .0 i) 1 0 + 2 * 0);
-  secondary = r .secondary + 2 ^ at * (cond (leader-bits d h .1 i) 1 0 + 2 * 0) }
+  secondary = r .secondary + 2 ^ at * (cond (leader-bits d h .1 i) 1 0 + 2 * 0);
+}
 
 module _ (led : Bool) (c len : ℕ) (parts : List ℕ) (d : ℕ) (t : led ≡ true) (h : len ≤ length parts) (split : Split led c (take len parts)) (below : d < ways led (take len parts)) where
   split′ : Split true c (take len parts)
@@ -277,7 +279,8 @@ module _ (e : Edges) (w : Walking e) where
             ap (λ r. grown r next rest) is
             ∙ grown-more drawn at next word rest long
             ∙ ap (λ f. grown drawn at (letters-from (e .leader) i f left)) (sym drop-fill)
-            ∙ k .comes })
+            ∙ k .comes;
+      })
         where
           at : ℕ
           at = total (take i (cells-at e))

@@ -23,7 +23,6 @@ use Rattle.scenarios.proofs.Ending.{total-more}
 use Rattle.scenarios.proofs.Weighing.{weight-more, weight-front, weight-small}
 use Rattle.scenarios.proofs.Drawing.{split-of, split-at, fill-at, length-cells, length-fill, ways-at}
 
-
 -- the parts of the first i cells
 abbrev pub front : Edges → ℕ → List ℕ
 front e i = joined (λ ps. ps) (take i (turn-at e .fill))
@@ -58,17 +57,18 @@ module _ (e : Edges) (w : Walking e) (i mask multiplicity : ℕ) (s : Summed e i
         let split = split-at e w i h in
         record {
           whole =
-            ap total grows ∙ total-append (front e i) (sizes (split-of e i)) ∙ ap (λ x. x + total (sizes (split-of e i))) (s .whole)
-            ∙ ap (λ x. total (take i (cells-at e)) + x) (split .whole) ∙ sym (total-more (cells-at e) i (omega (arith, length-cells e w)));
+              ap total grows ∙ total-append (front e i) (sizes (split-of e i)) ∙ ap (λ x. x + total (sizes (split-of e i))) (s .whole)
+              ∙ ap (λ x. total (take i (cells-at e)) + x) (split .whole) ∙ sym (total-more (cells-at e) i (omega (arith, length-cells e w)));
           filled = subst (All (λ p. 0 < p)) (sym grows) (all-append (λ p. 0 < p) (front e i) (sizes (split-of e i)) (s .filled) (split .filled));
           ended =
-            m ∙ ap (λ x. x + 2 ^ total (take i (cells-at e)) * ends (sizes (split-of e i))) (s .ended)
-            ∙ ap (λ x. ends (front e i) + 2 ^ x * ends (sizes (split-of e i))) (sym (s .whole))
-            ∙ sym (ap ends grows ∙ ends-append (front e i) (sizes (split-of e i)));
+              m ∙ ap (λ x. x + 2 ^ total (take i (cells-at e)) * ends (sizes (split-of e i))) (s .ended)
+              ∙ ap (λ x. ends (front e i) + 2 ^ x * ends (sizes (split-of e i))) (sym (s .whole))
+              ∙ sym (ap ends grows ∙ ends-append (front e i) (sizes (split-of e i)));
           weighs =
-            k ∙ ap (λ x. x * ways-at e i) (s .weighs)
-            ∙ ap (λ ps. weight-from (e .leader) 0 (take i (turn-at e .fill)) * ways (eqb i (e .leader)) ps) (sym (fill-at e w i h))
-            ∙ sym (weight-more (e .leader) (turn-at e .fill) i (omega (arith, length-fill e w))) }
+              k ∙ ap (λ x. x * ways-at e i) (s .weighs)
+              ∙ ap (λ ps. weight-from (e .leader) 0 (take i (turn-at e .fill)) * ways (eqb i (e .leader)) ps) (sym (fill-at e w i h))
+              ∙ sym (weight-more (e .leader) (turn-at e .fill) i (omega (arith, length-fill e w)));
+        }
 
 -- the product of the first cells fits
 pub summed-fits : (e : Edges) (w : Walking e) (i mask multiplicity : ℕ) → Summed e i mask multiplicity → i ≤ e .cells → multiplicity < 2 ^ 128

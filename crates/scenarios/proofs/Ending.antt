@@ -61,4 +61,5 @@ end-step mask start parts len j end out long h filled fits e o b =
       below = omega arith;
       ended = omega arith;
       more = omega arith;
-      still = omega arith }
+      still = omega arith;
+    }

@@ -152,9 +152,10 @@ module _ (l cells : ℕ) (ranges : List (ℕ × ℕ)) (old rs : List LocalRefine
       record {
         none = next-fill-none l i cs f (omega arith) (omega arith) (back .none) (ap (next-split (eqb i l)) here-is ∙ s);
         again = fill-set cells rs i r ∙ ap (λ g. set g i (sizes r)) (back .again) ∙ front-set f (first-fill l (i + 1) (drop (i + 1) cs)) i (sizes r) (omega arith)
-          ∙ ap (λ q. take i f ++ (q ∷ first-fill l (i + 1) (drop (i + 1) cs))) (e ∙ ap (first-split (eqb i l)) (sym (size-at cells ranges i h room)))
-          ∙ ap (λ g. take i f ++ g) (sym (first-fill-more l i cs (omega arith)));
-        short = short-set cells rs i r (back .short) short }
+            ∙ ap (λ q. take i f ++ (q ∷ first-fill l (i + 1) (drop (i + 1) cs))) (e ∙ ap (first-split (eqb i l)) (sym (size-at cells ranges i h room)))
+            ∙ ap (λ g. take i f ++ g) (sym (first-fill-more l i cs (omega arith)));
+        short = short-set cells rs i r (back .short) short;
+      }
 
 pub back-start : (l cells : ℕ) (ranges : List (ℕ × ℕ)) (rs : List LocalRefinement) → cells ≤ length ranges → cells ≤ length rs → Short cells rs
     → Back l cells (sizes-in cells ranges) rs rs cells
@@ -165,7 +166,8 @@ back-start l cells ranges rs room room′ s =
     record {
       none = ap (λ xs. next-fill l cells xs (drop cells (fill-of cells rs))) d;
       again = sym (ap (λ xs. take cells (fill-of cells rs) ++ first-fill l cells xs) d ∙ append-nil (take cells (fill-of cells rs)) ∙ take-all cells (fill-of cells rs) (omega arith));
-      short = s }
+      short = s;
+    }
 
 pub back-up : (l cells : ℕ) (cs : List ℕ) (old rs : List LocalRefinement) (i : ℕ) → 0 < i → Back l cells cs old rs i → Back l cells cs old rs (i - 1 + 1)
 back-up l cells cs old rs i h b = subst (Back l cells cs old rs) (let e : i ≡ i - 1 + 1 = omega arith in e) b

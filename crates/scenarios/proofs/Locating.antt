@@ -22,7 +22,8 @@ seek-start r cs rank h = record { same = refl; below = h }
 pub seek-on : (r : ℕ) (cs : List ℕ) (rank : ℕ) (t : Turn) (ts : List Turn) (left : ℕ) → Seeking r cs rank (t ∷ ts) left → size r t ≤ left → Seeking r cs rank ts (left - size r t)
 seek-on r cs rank t ts left s h = record {
   same = s .same ∙ cond-false (ltb left (size r t)) _ _ (le-ltb left (size r t) h);
-  below = let b = s .below in omega arith }
+  below = let b = s .below in omega arith;
+}
 
 -- what is found: the first round, and what is left behind it
 pub record Found (r : ℕ) (cs : List ℕ) (rank : ℕ) (t : Turn) (left : ℕ) : Type 0 where
@@ -40,4 +41,5 @@ seek-found r cs rank t ts left s h p =
       number-below = div-below left (count r (after t)) (weight t) p h;
       left-below = mod-below left (count r (after t)) p;
       rounds-are = ap (λ (x : Pick). round (x .turn) (x .left / count r (after (x .turn))) ∷ scenario r (after (x .turn)) (x .left % count r (after (x .turn)))) k;
-      cells-are = ap (λ (x : Pick). residual r (after (x .turn)) (x .left % count r (after (x .turn)))) k }
+      cells-are = ap (λ (x : Pick). residual r (after (x .turn)) (x .left % count r (after (x .turn)))) k;
+    }

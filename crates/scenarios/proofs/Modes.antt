@@ -85,9 +85,10 @@ pub sustained-whole : (n R : ℕ) (rs : List RoundScenario) → 0 < R → All-al
     → (Legal n R rs × All-alike rs) × Canonical n rs
 sustained-whole n R rs l h e g c =
     let f = first-repeats R rs l e h in
-    let a = subst (All (Legal-round n)) (f .2) g .0 in
-    (subst (λ xs. Legal n R xs × All-alike xs) (sym (f .1)) (legal-replicate n R (f .0) a),
-      subst (Canonical n) (sym (f .1)) (repeats-canonical n R (f .0) l .1 (subst (Canonical n) (f .2) c)))
+    let a = subst (All (Legal-round n)) (f .2) g .0 in (
+      subst (λ xs. Legal n R xs × All-alike xs) (sym (f .1)) (legal-replicate n R (f .0) a),
+      subst (Canonical n) (sym (f .1)) (repeats-canonical n R (f .0) l .1 (subst (Canonical n) (f .2) c)),
+    )
 
 -- a list of one round, repeated
 
@@ -123,7 +124,8 @@ corresponds-in Sustained n R h l = record {
   legal = λ k b. legal-repeated n R (scenario 1 (n ∷ []) k) (s .legal k b);
   canonical = λ k b. canonical-repeated n R (scenario 1 (n ∷ []) k) l (s .legal k b .enough) (s .canonical k b);
   apart = λ k j a b e. s .apart k j a b (apart-repeated R (scenario 1 (n ∷ []) k) (scenario 1 (n ∷ []) j) l (s .legal k a .enough) (s .legal j b .enough) e);
-  found = λ rs g c. found-repeated n R rs h l g c }
+  found = λ rs g c. found-repeated n R rs h l g c;
+}
   where
     s : Corresponds n 1
     s = correspond n 1 h

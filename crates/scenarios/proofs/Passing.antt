@@ -50,8 +50,13 @@ pub pass-start : (r n s : ℕ) (x : RoundRank) (e : Edges) → 0 < n → Begun n
 pass-start r n s x e h b =
     let l = left-begun n (cells n s) e b in
     record {
-      walking = b .walking; at = b .at; passed = []; splits = sym l; sum = refl;
-      ahead = λ t f. subst (λ ts. Among ts t) (sym l) (turns-fit n (cells n s) (cells-stand n s h) t .1 (f .fits)) }
+      walking = b .walking;
+      at = b .at;
+      passed = [];
+      splits = sym l;
+      sum = refl;
+      ahead = λ t f. subst (λ ts. Among ts t) (sym l) (turns-fit n (cells n s) (cells-stand n s h) t .1 (f .fits));
+    }
 
 -- the edge y at which the walk stands, from which w scenarios of r rounds go on; the sum with all of its own still fits
 pub record Here (r n s : ℕ) (x : RoundRank) (e : Edges) (v : ℕ) (y : TransitionEdge) (w : ℕ) : Type 0 where
@@ -88,7 +93,7 @@ module _ (R d : ℕ) {n s : ℕ} {x : RoundRank} {e : Edges} {v : ℕ} {y : Tran
     total-fits =
         let p = left-here e (so .walking) in
         let q : count (R - d) (cells n s) ≡ sum-of (size (R - (d + 1))) (so .passed) + (size (R - (d + 1)) here + sum-of (size (R - (d + 1))) (p .0)) =
-          count-step R d (cells n s) l ∙ ap (sum-of (size (R - (d + 1)))) (so .splits ∙ ap (λ ts. so .passed ++ ts) (p .1)) ∙ sum-of-append (size (R - (d + 1))) (so .passed) (here ∷ p .0) in
+        count-step R d (cells n s) l ∙ ap (sum-of (size (R - (d + 1)))) (so .splits ∙ ap (λ ts. so .passed ++ ts) (p .1)) ∙ sum-of-append (size (R - (d + 1))) (so .passed) (here ∷ p .0) in
         let b = count-below n R d s some (omega arith) a in
         let m : y .multiplicity * w ≡ size (R - (d + 1)) here = ap (λ z. z .multiplicity * w) is ∙ ap (λ k. weight here * k) ways-here in
         let z = so .sum in
@@ -125,8 +130,11 @@ module _ {r n s : ℕ} {x : RoundRank} {e : Edges} {v : ℕ} {y : TransitionEdge
     pass-found t f =
         let p = left-here e (h .passing .walking) in
         let g : First-rank r (cells n s) (turn-at e) (x .rank) (v + x .rank * w) = record {
-          before = h .passing .passed; rest = p .0; splits = h .passing .splits ∙ ap (λ ts. h .passing .passed ++ ts) (p .1);
-          is = ap (λ k. k + x .rank * w) (h .passing .sum) ∙ ap (λ k. sum-of (size r) (h .passing .passed) + x .rank * k) (h .ways) } in
+          before = h .passing .passed;
+          rest = p .0;
+          splits = h .passing .splits ∙ ap (λ ts. h .passing .passed ++ ts) (p .1);
+          is = ap (λ k. k + x .rank * w) (h .passing .sum) ∙ ap (λ k. sum-of (size r) (h .passing .passed) + x .rank * k) (h .ways);
+        } in
         subst (λ u. First-rank r (cells n s) u (x .rank) (v + x .rank * w)) (read-here t f) g
 
     -- the sum is asked for with the product k
@@ -153,10 +161,13 @@ module _ {r n s : ℕ} {x : RoundRank} {e : Edges} {v : ℕ} {y : TransitionEdge
         let k = sum-of-append (size r) (so .passed) (turn-at e ∷ []) in
         let j : y .multiplicity * w ≡ size r (turn-at e) = ap (λ u. u .multiplicity * w) (h .is) ∙ ap (λ u. weight (turn-at e) * u) (h .ways) in
         record {
-          walking = m .walking; at = m .at ∙ so .at; passed = so .passed ++ (turn-at e ∷ []);
+          walking = m .walking;
+          at = m .at ∙ so .at;
+          passed = so .passed ++ (turn-at e ∷ []);
           splits = so .splits ∙ ap (λ ts. so .passed ++ ts) l ∙ sym (append-assoc (so .passed) (turn-at e ∷ []) (left-of f));
           sum = (omega arith);
-          ahead = λ t g. later t (left-of f) g l }
+          ahead = λ t g. later t (left-of f) g l;
+        }
 
     pub pass-never : (t : Turn) → Tells n s x t → next-turn (cells-at e) (turn-at e) ≡ None → ⊥
     pass-never t f q = among-none t (later t [] f (left-ended e (h .passing .walking) q))

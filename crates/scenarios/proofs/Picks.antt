@@ -24,15 +24,15 @@ pick-at size (x ∷ b) t r k l =
 
 pub pick-in : (size : Turn → ℕ) (ts : List Turn) (k : ℕ) → k < sum-of size ts
     → (b : List Turn) × (t : Turn) × (r : List Turn) × (j : ℕ)
-      × (ts ≡ b ++ (t ∷ r)) × (k ≡ sum-of size b + j) × (j < size t) × (pick size ts k ≡ record { turn = t; left = j })
+    × (ts ≡ b ++ (t ∷ r)) × (k ≡ sum-of size b + j) × (j < size t) × (pick size ts k ≡ record { turn = t; left = j })
 pick-in size [] k h = absurd (omega arith)
 pick-in size (t ∷ ts) k h = go (λ l. pick-in size ts (k - size t) (omega arith)) (cases-lt k (size t))
   where
     go : (size t ≤ k → (b : List Turn) × (t′ : Turn) × (r : List Turn) × (j : ℕ)
-          × (ts ≡ b ++ (t′ ∷ r)) × (k - size t ≡ sum-of size b + j) × (j < size t′) × (pick size ts (k - size t) ≡ record { turn = t′; left = j }))
+        × (ts ≡ b ++ (t′ ∷ r)) × (k - size t ≡ sum-of size b + j) × (j < size t′) × (pick size ts (k - size t) ≡ record { turn = t′; left = j }))
         → (k < size t) ⊎ (size t ≤ k)
         → (b : List Turn) × (t′ : Turn) × (r : List Turn) × (j : ℕ)
-          × (t ∷ ts ≡ b ++ (t′ ∷ r)) × (k ≡ sum-of size b + j) × (j < size t′) × (pick size (t ∷ ts) k ≡ record { turn = t′; left = j })
+        × (t ∷ ts ≡ b ++ (t′ ∷ r)) × (k ≡ sum-of size b + j) × (j < size t′) × (pick size (t ∷ ts) k ≡ record { turn = t′; left = j })
     go ih (inl l) = ([], t, ts, k, refl, sym (zero-add k), l, rw (lt-ltb k (size t) l))
     go ih (inr l) =
         let h = ih l in
@@ -50,15 +50,14 @@ rank r b t d k = sum-of (size r) b + (d * count r (after t) + k)
 module _ (r : ℕ) (cs : List ℕ) where
   pub scenario-step : (b : List Turn) (t : Turn) (rest : List Turn) (d k : ℕ) → turns cs ≡ b ++ (t ∷ rest) → d < weight t → k < count r (after t)
       → (scenario (suc r) cs (rank r b t d k) ≡ round t d ∷ scenario r (after t) k)
-        × (residual (suc r) cs (rank r b t d k) ≡ residual r (after t) k)
-        × (rank r b t d k < count (suc r) cs)
+      × (residual (suc r) cs (rank r b t d k) ≡ residual r (after t) k)
+      × (rank r b t d k < count (suc r) cs)
   scenario-step b t rest d k q ld lk =
       let c = count r (after t) in
       let below : d * c + k < weight t * c = omega (arith, mul-add-lt d c k (weight t) ld lk) in
-      let picked : pick (size r) (turns cs) (rank r b t d k) ≡ record { turn = t; left = d * c + k } = rw q (pick-at (size r) b t rest (d * c + k) below) in
-      (
+      let picked : pick (size r) (turns cs) (rank r b t d k) ≡ record { turn = t; left = d * c + k } = rw q (pick-at (size r) b t rest (d * c + k) below) in (
         ap (λ (p : Pick). round (p .turn) (p .left / count r (after (p .turn))) ∷ scenario r (after (p .turn)) (p .left % count r (after (p .turn)))) picked
-          ∙ rw (div-mul-add d c k lk, mod-mul-add d c k lk),
+            ∙ rw (div-mul-add d c k lk, mod-mul-add d c k lk),
         ap (λ (p : Pick). residual r (after (p .turn)) (p .left % count r (after (p .turn)))) picked ∙ rw (mod-mul-add d c k lk),
         rw (q, sum-of-append (size r) b (t ∷ rest)) (omega arith),
       )
@@ -91,9 +90,18 @@ module _ (r : ℕ) (cs : List ℕ) where
           let e′ : k ≡ rank r b t (j / c) (j % c) = omega (arith, div-add-mod' j c) in
           let s = scenario-step b t rest (j / c) (j % c) q d-below k-below in
           record {
-            before = b; turn = t; rest = rest; number = j / c; left = j % c;
-            splits = q; number-below = d-below; left-below = k-below; rank-is = e′;
-            scenario-is = ap (scenario (suc r) cs) e′ ∙ s .0; residual-is = ap (residual (suc r) cs) e′ ∙ s .1 }
+            before = b;
+            turn = t;
+            rest = rest;
+            number = j / c;
+            left = j % c;
+            splits = q;
+            number-below = d-below;
+            left-below = k-below;
+            rank-is = e′;
+            scenario-is = ap (scenario (suc r) cs) e′ ∙ s .0;
+            residual-is = ap (residual (suc r) cs) e′ ∙ s .1;
+          }
         where
           some-left : (0 < count r (after t)) ⊎ (count r (after t) ≤ 0) → 0 < count r (after t)
           some-left (inl s) = s

@@ -79,8 +79,8 @@ pub sustained-told : (m : Mode) (n R rank total D : ℕ) (mem : List Slot) (xs m
 sustained-told Sampled n R rank total D mem xs mid ys b sb q e p t f l c u y = absurd (let z : _≡_ {A = ℕ} 0 1 = cc in omega arith)
 sustained-told Sustained n R rank total D mem xs mid ys b sb q e p t f l c u y =
     let w = u (subst (λ k. k < 2 ^ 64) (t ∙ ap (λ k. count k (n ∷ [])) (sym e)) f)
-        (subst (λ k. take (length (entries n k)) mem ≡ entries n k) (sym e) c)
-        (subst (λ k. rank < k) (t ∙ ap (λ k. count k (n ∷ [])) (sym e)) l) in
+    (subst (λ k. take (length (entries n k)) mem ≡ entries n k) (sym e) c)
+    (subst (λ k. rank < k) (t ∙ ap (λ k. count k (n ∷ [])) (sym e)) l) in
     let mids : mid ≡ scenario 1 (n ∷ []) rank ++ drop 1 xs = w .0 ∙ ap (λ k. scenario k (n ∷ []) rank ++ drop k xs) e in
     (repeated-rounds R (getD (scenario 1 (n ∷ []) rank) 0 b) b xs mid ys p mids y, w .1 ∙ ap (λ k. boundaries (residual k (n ∷ []) rank)) e)
 
@@ -104,9 +104,10 @@ module _ (n R : ℕ) (rs script : List RoundScenario) (h : 0 < R) where
   ranked-by Sampled None s q l w = λ legal canonical.
       let all : script ≡ rs = q ∙ take-all R rs (omega arith) in
       w (subst (All (Legal-round n)) (sym all) (legal .each)) (subst (Canonical n) (sym all) canonical)
-  ranked-by Sustained (Some k) s q l w =
-      (subst (λ d. k < count d (n ∷ [])) l (w .0),
-      ap (repeated R) (ap (λ d. scenario d (n ∷ []) k) (sym l) ∙ w .1 ∙ q) ∙ sustained-back n R rs (record { leader = 0; primary = 0; secondary = 0 }) h (s .0) (s .1))
+  ranked-by Sustained (Some k) s q l w = (
+    subst (λ d. k < count d (n ∷ [])) l (w .0),
+    ap (repeated R) (ap (λ d. scenario d (n ∷ []) k) (sym l) ∙ w .1 ∙ q) ∙ sustained-back n R rs (record { leader = 0; primary = 0; secondary = 0 }) h (s .0) (s .1),
+  )
   ranked-by Sustained None s q l w =
       sustained-none n R rs h (λ a b. w (subst (All (Legal-round n)) (sym q) a) (subst (Canonical n) (sym q) b))
 

@@ -36,14 +36,14 @@ pub rank-start : (n : ℕ) (rs : List RoundScenario) → 0 < n → Ranking n rs 
 rank-start n rs h = record {
   read = read-start n rs h (root-state n h);
   reached = among-here 0 [];
-  ranks = λ k l. go k l }
+  ranks = λ k l. go k l;
+}
   where
     go : (k : ℕ) → k < count (length rs - 0) (cells n 0) → Continues n rs 0 0 0 k
     go k l =
         let e : 0 + k ≡ k = omega arith in
         let z : length rs ≡ length rs - 0 = omega arith in
-        let q : count (length rs - 0) (cells n 0) ≡ count (length rs) (n ∷ []) = ap (λ j. count j (cells n 0)) (sym z) ∙ ap (count (length rs)) (root-state n h) in
-        (
+        let q : count (length rs - 0) (cells n 0) ≡ count (length rs) (n ∷ []) = ap (λ j. count j (cells n 0)) (sym z) ∙ ap (count (length rs)) (root-state n h) in (
           ap (scenario (length rs) (n ∷ [])) e ∙ ap (λ cs. scenario (length rs) cs k) (sym (root-state n h)) ∙ ap (λ j. scenario j (cells n 0) k) z,
           (omega arith),
         )
@@ -67,13 +67,12 @@ module _ (n : ℕ) (rs : List RoundScenario) (i s v : ℕ) (some : 0 < n) (so : 
       let e : suc r ≡ length rs - i = omega arith in
       let f : v + y + k ≡ v + j = let g = first .is in omega arith in
       let q = so .ranks j (subst (λ m. j < count m (cells n s)) e (p .2)) in
-      let u = q .1 in
-      (
+      let u = q .1 in (
         ap (scenario (length rs) (n ∷ [])) f ∙ q .0
-          ∙ ap (λ m. take i rs ++ scenario m (cells n s) j) (sym e)
-          ∙ ap (λ x. take i rs ++ x) (p .0 ∙ ap (λ x. x ∷ scenario r (after t) k) is)
-          ∙ sym (append-assoc (take i rs) (getD rs i z ∷ []) (scenario r (after t) k))
-          ∙ ap (λ x. x ++ scenario r (after t) k) (sym (take-more rs i z l)),
+            ∙ ap (λ m. take i rs ++ scenario m (cells n s) j) (sym e)
+            ∙ ap (λ x. take i rs ++ x) (p .0 ∙ ap (λ x. x ∷ scenario r (after t) k) is)
+            ∙ sym (append-assoc (take i rs) (getD rs i z ∷ []) (scenario r (after t) k))
+            ∙ ap (λ x. x ++ scenario r (after t) k) (sym (take-more rs i z l)),
         (omega arith),
       )
 
@@ -91,7 +90,8 @@ module _ (n : ℕ) (rs : List RoundScenario) (i s v : ℕ) (some : 0 < n) (so : 
         read = read-more n some rs i s (so .read) z l t d m fits below is q;
         reached = subst (Among (layer n (i + 1))) q (layer-after n i s t (so .reached) among-turns);
         ranks = subst (λ cs. (k : ℕ) → k < count (length rs - (i + 1)) cs
-          → (scenario (length rs) (n ∷ []) (v + y + k) ≡ take (i + 1) rs ++ scenario (length rs - (i + 1)) cs k) × (v + y + k < count (length rs) (n ∷ []))) e ranks-on }
+            → (scenario (length rs) (n ∷ []) (v + y + k) ≡ take (i + 1) rs ++ scenario (length rs - (i + 1)) cs k) × (v + y + k < count (length rs) (n ∷ []))) e ranks-on;
+      }
 
   pub rank-more : (m u : ℕ) → boundaries (after t) ≡ m → u ≡ v + y → Ranking n rs (i + 1) m u
   rank-more m u q e = subst (Ranking n rs (i + 1) m) (sym e) (ranked m q)
@@ -103,8 +103,7 @@ rank-all n rs i s v h so =
     let o : count (length rs - i) (cells n s) ≡ 1 = ap (λ j. count j (cells n s)) e in
     let q = so .ranks 0 (omega arith) in
     let u = q .1 in
-    let z : v ≡ v + 0 = omega arith in
-    (
+    let z : v ≡ v + 0 = omega arith in (
       (omega arith),
       ap (scenario (length rs) (n ∷ [])) z ∙ q .0 ∙ ap (λ j. take i rs ++ scenario j (cells n s) 0) e ∙ append-nil (take i rs) ∙ take-all i rs h,
     )

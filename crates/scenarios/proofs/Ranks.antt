@@ -35,7 +35,8 @@ module _ (fit : Turns-fit) (stand : Rounds-stand) (n : ℕ) where
     legal = record { enough = ap suc (h .legal .enough); each = (s .legal, h .legal .each) };
     follows = (λ i l k. s .ordered i l (w i l .1 k), h .follows);
     cells = h .cells;
-    tied = rw append-assoc at (h .tied) })
+    tied = rw append-assoc at (h .tied);
+  })
 
   pub scenario-stands : (r : ℕ) (cs : List ℕ) (before : List RoundScenario) (k : ℕ) → Cells-of n cs → Tied n cs before → k < count r cs
       → Stands n r before (scenario r cs k) (residual r cs k)
@@ -44,7 +45,7 @@ module _ (fit : Turns-fit) (stand : Rounds-stand) (n : ℕ) where
       let b = scenario-first r cs k l in
       let s = stands-at cs c b in
       stands-more r cs (b .turn) (b .number) before (scenario (suc r) cs k) (scenario r (after (b .turn)) (b .left)) (residual (suc r) cs k) (residual r (after (b .turn)) (b .left)) w s (b .scenario-is) (b .residual-is)
-        (scenario-stands r (after (b .turn)) (before ++ (round (b .turn) (b .number) ∷ [])) (b .left) (s .cells) (tied-step n cs (b .turn) (b .number) before s w) (b .left-below))
+      (scenario-stands r (after (b .turn)) (before ++ (round (b .turn) (b .number) ∷ [])) (b .left) (s .cells) (tied-step n cs (b .turn) (b .number) before s w) (b .left-below))
 
   pub scenario-apart : Turns-apart → Rounds-apart → (r : ℕ) (cs : List ℕ) (k j : ℕ) → Cells-of n cs → k < count r cs → j < count r cs
       → scenario r cs k ≡ scenario r cs j → k ≡ j
@@ -88,7 +89,8 @@ ranks-correspond fit turns-apart stand found rounds-apart n R h = record {
   legal = λ k l. stands k l .legal;
   canonical = λ k l. canonical-to n (scenario R (n ∷ []) k) (stands k l .follows);
   apart = λ k j. scenario-apart fit stand n turns-apart rounds-apart R (n ∷ []) k j (one-cell-of n h);
-  found = λ rs g c. scenario-found fit stand n found R (n ∷ []) [] rs (one-cell-of n h) (tied-first n) g (canonical-from n rs c) }
+  found = λ rs g c. scenario-found fit stand n found R (n ∷ []) [] rs (one-cell-of n h) (tied-first n) g (canonical-from n rs c);
+}
   where
     stands : (k : ℕ) → k < count R (n ∷ []) → Stands n R [] (scenario R (n ∷ []) k) (residual R (n ∷ []) k)
     stands k = scenario-stands fit stand n R (n ∷ []) [] k (one-cell-of n h) (tied-first n)

@@ -46,10 +46,17 @@ joins-table : Each-below 4 (λ x. Each-below (2 ^ x) (λ m. roles-in (m + 2 ^ x)
 unfolding bit roles-in
 joins-table = (
   (refl, (refl, (refl, (refl, (refl, (refl, (refl, (refl, tt)))))))),
-  ((refl, (refl, (refl, (refl, tt)))),
-  ((refl, (refl, tt)),
-  ((refl, tt),
-  tt))))
+  (
+    (refl, (refl, (refl, (refl, tt)))),
+    (
+      (refl, (refl, tt)),
+      (
+        (refl, tt),
+        tt,
+      ),
+    ),
+  ),
+)
 
 pub role-joins : (m x : ℕ) → x < 4 → m < 2 ^ x → roles-in (m + 2 ^ x) ≡ roles-in m ++ (x ∷ [])
 role-joins m x hx hm = each-below (2 ^ x) (λ m. roles-in (m + 2 ^ x) ≡ roles-in m ++ (x ∷ [])) (each-below 4 (λ x. Each-below (2 ^ x) (λ m. roles-in (m + 2 ^ x) ≡ roles-in m ++ (x ∷ []))) joins-table x hx) m hm
@@ -111,10 +118,11 @@ module _ (x : Reading) (long : length (x .parts) ≡ 5) (whole : Reads x (spelle
       let r = role-last (x .roles) y hy low high in
       let n : length (roles-in (x .roles)) ≡ length (roles-in (x .roles - 2 ^ y)) + 1 = ap length r ∙ length-push (roles-in (x .roles - 2 ^ y)) y in
       let some : 0 < x .len = omega (arith, whole .even) in
-      let k : x .len ≡ x .len - 1 + 1 = omega arith in
-      (some,
-      length-take-le (x .len - 1) (x .parts) (omega (arith, whole .few)) ∙ omega (arith, whole .even),
-      ap (λ j. take j (x .parts)) k ∙ take-more (x .parts) (x .len - 1) 0 (omega (arith, whole .few)))
+      let k : x .len ≡ x .len - 1 + 1 = omega arith in (
+        some,
+        length-take-le (x .len - 1) (x .parts) (omega (arith, whole .few)) ∙ omega (arith, whole .even),
+        ap (λ j. take j (x .parts)) k ∙ take-more (x .parts) (x .len - 1) 0 (omega (arith, whole .few)),
+      )
 
   last-word : (y : ℕ) (hy : y < 4) (low : 2 ^ y ≤ x .roles) (high : x .roles < 2 * 2 ^ y)
       → spelled x ≡ spell (take (x .len - 1) (x .parts)) (roles-in (x .roles - 2 ^ y)) ++ (replicate (getD (x .parts) (x .len - 1) 0) y ++ [])
@@ -282,10 +290,42 @@ alike-more m i = sumBy-map-counting-more (λ x. x) (λ x. cond (eqb (ones x) (on
 rank-table : Each-below 16 (λ m. Ranks-choice m (alike m m))
 unfolding ones bit roles-in choices choose subset
 rank-table = (
-  (lit< tt, refl), ((lit< tt, refl), ((lit< tt, refl), ((lit< tt, refl),
-  ((lit< tt, refl), ((lit< tt, refl), ((lit< tt, refl), ((lit< tt, refl),
-  ((lit< tt, refl), ((lit< tt, refl), ((lit< tt, refl), ((lit< tt, refl),
-  ((lit< tt, refl), ((lit< tt, refl), ((lit< tt, refl), ((lit< tt, refl), tt))))))))))))))))
+  (lit< tt, refl),
+  (
+    (lit< tt, refl),
+    (
+      (lit< tt, refl),
+      (
+        (lit< tt, refl),
+        (
+          (lit< tt, refl),
+          (
+            (lit< tt, refl),
+            (
+              (lit< tt, refl),
+              (
+                (lit< tt, refl),
+                (
+                  (lit< tt, refl),
+                  (
+                    (lit< tt, refl),
+                    (
+                      (lit< tt, refl),
+                      (
+                        (lit< tt, refl),
+                        ((lit< tt, refl), ((lit< tt, refl), ((lit< tt, refl), ((lit< tt, refl), tt)))),
+                      ),
+                    ),
+                  ),
+                ),
+              ),
+            ),
+          ),
+        ),
+      ),
+    ),
+  ),
+)
 
 pub ranks-choice : (m : ℕ) → m < 16 → Ranks-choice m (alike m m)
 ranks-choice = each-below 16 (λ m. Ranks-choice m (alike m m)) rank-table

@@ -105,6 +105,7 @@ cut-skips (suc c) k m e =
   where
     pow-two : (c : ℕ) → 2 ^ suc c ≡ 2 * 2 ^ c
     pow-two c = let z = pow-suc 2 c in omega arith
+
     even : (x : ℕ) → (2 * x) % 2 ≡ 0
     even x = omega arith
 
@@ -137,6 +138,7 @@ cut-ends k (suc c) (d ∷ ds) h a =
         let q = mul-assoc (2 ^ c) 2 x in
         let r = mul-add (2 ^ c) 1 (2 * x) in
         omega arith
+
     odd : (x : ℕ) → (1 + 2 * x) % 2 ≡ 1
     odd x = omega arith
 

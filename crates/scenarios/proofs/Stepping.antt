@@ -61,13 +61,14 @@ module _ (n R d s : ℕ) (h : 0 < n) (l : d < R) (lay : Among (layer n d) s) whe
           layered = subst (Among (layer n (d + 1))) (sym en) (layer-after n d s t lay a);
           below = subst (λ k. k < count r (cells n (x .next .boundaries))) (sym lf) (subst (λ c. left % count r (after t) < count r c) (sym cs) (f .left-below));
           rounds-are =
-            ap (λ k. scenario k (cells n s) rank) (sym one-more) ∙ f .rounds-are
-            ∙ sym (ap (λ y. y ∷ scenario r (cells n (x .next .boundaries)) (x .left)) rd
-            ∙ ap (λ c. round t (left / count r (after t)) ∷ scenario r c (x .left)) cs
-            ∙ ap (λ k. round t (left / count r (after t)) ∷ scenario r (after t) k) lf);
+              ap (λ k. scenario k (cells n s) rank) (sym one-more) ∙ f .rounds-are
+              ∙ sym (ap (λ y. y ∷ scenario r (cells n (x .next .boundaries)) (x .left)) rd
+              ∙ ap (λ c. round t (left / count r (after t)) ∷ scenario r c (x .left)) cs
+              ∙ ap (λ k. round t (left / count r (after t)) ∷ scenario r (after t) k) lf);
           cells-are =
-            ap (λ k. residual k (cells n s) rank) (sym one-more) ∙ f .cells-are
-            ∙ sym (ap (λ c. residual r c (x .left)) cs ∙ ap (residual r (after t)) lf) }
+              ap (λ k. residual k (cells n s) rank) (sym one-more) ∙ f .cells-are
+              ∙ sym (ap (λ c. residual r c (x .left)) cs ∙ ap (residual r (after t)) lf);
+        }
 
 -- all rounds, written from the first slot on
 
@@ -87,12 +88,13 @@ unranked-more n R rank old ws i s left x l k u st =
       layered = st .layered;
       below = st .below;
       rounds-are =
-        ap (λ w. w ++ rest) (take-more-set ws i (x .round) k) ∙ append-assoc (take i ws) (x .round ∷ []) rest
-        ∙ ap (λ y. take i ws ++ y) (sym (st .rounds-are)) ∙ u .rounds-are;
+          ap (λ w. w ++ rest) (take-more-set ws i (x .round) k) ∙ append-assoc (take i ws) (x .round ∷ []) rest
+          ∙ ap (λ y. take i ws ++ y) (sym (st .rounds-are)) ∙ u .rounds-are;
       cells-are = sym (st .cells-are) ∙ u .cells-are;
       kept =
-        drop-set-lt (i + 1) ws i (x .round) (omega arith)
-        ∙ sym (drop-drop 1 i ws) ∙ ap (drop 1) (u .kept) ∙ drop-drop 1 i old }
+          drop-set-lt (i + 1) ws i (x .round) (omega arith)
+          ∙ sym (drop-drop 1 i ws) ∙ ap (drop 1) (u .kept) ∙ drop-drop 1 i old;
+    }
 
 -- the walk stands at an edge, with v continuations behind it
 
@@ -164,7 +166,8 @@ at-edge n R d s rank left v h l lay e w cs seek x is v-found small =
       next-is = ap (λ y. y .next .boundaries) is;
       found = edge-found n R d s rank left v h l lay e w cs seek x is v-is;
       passed = edge-passed n R d s rank left v h l lay e w cs seek x is v-is;
-      ended = edge-last n R d s rank left v h l lay e w cs seek x is v-is }
+      ended = edge-last n R d s rank left v h l lay e w cs seek x is v-is;
+    }
 
 pub unranked-start : (n R rank : ℕ) (old : List RoundScenario) (s : ℕ) → 0 < n → s ≡ 0 → rank < count R (n ∷ []) → Unranked n R rank old old 0 s rank
 unranked-start n R rank old s h z b =
@@ -175,7 +178,8 @@ unranked-start n R rank old s h z b =
       below = subst (λ c. rank < count (R - 0) c) (sym root) (subst (λ k. rank < count k (n ∷ [])) (sym none) b);
       rounds-are = (λ i. scenario (none i) (root i) rank);
       cells-are = (λ i. residual (none i) (root i) rank);
-      kept = refl }
+      kept = refl;
+    }
 
 -- a state that rounds can lead to is the mask of its cells
 layer-mask : (n d s : ℕ) → 0 < n → Among (layer n d) s → boundaries (cells n s) ≡ s
@@ -192,8 +196,7 @@ pub unranked-all : (n R rank : ℕ) (old ws : List RoundScenario) (i s left : �
 unranked-all n R rank old ws i s left h e u =
     let z : R - i ≡ 0 = omega arith in
     let done : take i ws ≡ scenario R (n ∷ []) rank = sym (append-nil (take i ws)) ∙ ap (λ k. take i ws ++ scenario k (cells n s) left) (sym z) ∙ u .rounds-are in
-    let cs : cells n s ≡ residual R (n ∷ []) rank = ap (λ k. residual k (cells n s) left) (sym z) ∙ u .cells-are in
-    (
+    let cs : cells n s ≡ residual R (n ∷ []) rank = ap (λ k. residual k (cells n s) left) (sym z) ∙ u .cells-are in (
       sym (take-append-drop i ws) ∙ ap (λ x. x ++ drop i ws) done ∙ ap (λ x. scenario R (n ∷ []) rank ++ x) (u .kept) ∙ ap (λ k. scenario R (n ∷ []) rank ++ drop k old) e,
       sym (layer-mask n i s h (u .layered)) ∙ ap boundaries cs,
     )

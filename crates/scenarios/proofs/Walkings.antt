@@ -70,10 +70,12 @@ walk-begins n s ranges k rs h b long long′ listed few begun short =
         ranged = listed ∙ ap (ranges-from 0) (sym cs);
         whole = w;
         fits = subst (Fits (sizes-in k ranges)) (sym t) (first-fits n (sizes-in k ranges) w (omega arith));
-        short = short };
+        short = short;
+      };
       of = refl;
       at = cs;
-      first = t ∙ ap first-turn cs }
+      first = t ∙ ap first-turn cs;
+    }
 
 -- a step
 
@@ -109,10 +111,12 @@ module _ (e : Edges) (w : Walking e) where
         ranged = w .ranged;
         whole = w .whole;
         fits = next-fits (e .n) (cells-at e) (turn-at e) (turn l (fill-of (e .cells) rs)) (w .whole) (w .fits) n;
-        short = short };
+        short = short;
+      };
       of = refl;
       at = refl;
-      next = n }
+      next = n;
+    }
 
     pub walk-on : next-fill (e .leader) 0 (cells-at e) (fill-of (e .cells) (e .refinements)) ≡ Some (fill-of (e .cells) rs)
         → Moved e (record { n = e .n; ranges = e .ranges; cells = e .cells; leader = e .leader; refinements = rs })

@@ -38,14 +38,16 @@ unfoldable pub round-of : List ℕ → RoundScenario
 round-of ls = record {
   leader = leading (λ x. ltb x 4) ls;
   primary = pack (map in-primary ls);
-  secondary = pack (map in-secondary ls) }
+  secondary = pack (map in-secondary ls);
+}
 
 -- the round with these letters for the participants from start on, whose bits it did not have
 abbrev pub grown : RoundScenario → ℕ → List ℕ → RoundScenario
 grown r start ls = record {
   leader = r .leader;
   primary = r .primary + 2 ^ start * pack (map in-primary ls);
-  secondary = r .secondary + 2 ^ start * pack (map in-secondary ls) }
+  secondary = r .secondary + 2 ^ start * pack (map in-secondary ls);
+}
 
 -- the round has no bit from start on
 pub record Below (start : ℕ) (r : RoundScenario) : Type 0 where

@@ -23,8 +23,9 @@ abbrev pub next-parts : List ℕ → Option (List ℕ)
 next-parts [] = None
 next-parts (p ∷ ps) =
     elim (next-parts ps) [
-      Some qs ↦ Some (p ∷ qs)
-    | None ↦ cond (ltb (length ps) (total ps)) (Some ((p + 1) ∷ first-parts (length ps) (total ps - 1))) None ]
+      | Some qs ↦ Some (p ∷ qs)
+      | None ↦ cond (ltb (length ps) (total ps)) (Some ((p + 1) ∷ first-parts (length ps) (total ps - 1))) None
+    ]
 
 -- at most four parts, one part more where no composition of as many is left
 abbrev pub first-composition : ℕ → List ℕ
@@ -34,8 +35,9 @@ first-composition (suc m) = suc m ∷ []
 abbrev pub next-composition : List ℕ → Option (List ℕ)
 next-composition ps =
     elim (next-parts ps) [
-      Some qs ↦ Some qs
-    | None ↦ cond (ltb (length ps) (min (total ps) 4)) (Some (first-parts (length ps + 1) (total ps))) None ]
+      | Some qs ↦ Some qs
+      | None ↦ cond (ltb (length ps) (min (total ps) 4)) (Some (first-parts (length ps + 1) (total ps))) None
+    ]
 
 -- a leader stays alone at the end
 abbrev pub first-split : Bool → ℕ → List ℕ
@@ -59,8 +61,9 @@ next-fill l i [] f = None
 next-fill l i (c ∷ cs) [] = None
 next-fill l i (c ∷ cs) (ps ∷ f) =
     elim (next-fill l (i + 1) cs f) [
-      Some g ↦ Some (ps ∷ g)
-    | None ↦ elim (next-split (eqb i l) ps) [ Some qs ↦ Some (qs ∷ first-fill l (i + 1) cs) | None ↦ None ] ]
+      | Some g ↦ Some (ps ∷ g)
+      | None ↦ elim (next-split (eqb i l) ps) [ Some qs ↦ Some (qs ∷ first-fill l (i + 1) cs) | None ↦ None ]
+    ]
 
 abbrev pub first-turn : List ℕ → Turn
 first-turn cs = record { leader = 0; fill = first-fill 0 0 cs }
@@ -68,5 +71,6 @@ first-turn cs = record { leader = 0; fill = first-fill 0 0 cs }
 abbrev pub next-turn : List ℕ → Turn → Option Turn
 next-turn cs t =
     elim (next-fill (t .leader) 0 cs (t .fill)) [
-      Some g ↦ Some (record { leader = t .leader; fill = g })
-    | None ↦ cond (ltb (t .leader + 1) (length cs)) (Some (record { leader = t .leader + 1; fill = first-fill (t .leader + 1) 0 cs })) None ]
+      | Some g ↦ Some (record { leader = t .leader; fill = g })
+      | None ↦ cond (ltb (t .leader + 1) (length cs)) (Some (record { leader = t .leader + 1; fill = first-fill (t .leader + 1) 0 cs })) None
+    ]

@@ -83,7 +83,14 @@ fn note_nexts(n: usize, depth: usize, place: Place, slots: &mut [Slot], len: usi
     let mut edges = Edges::of(n, place.state);
     let mut used = len;
     loop {
-        used = note_place(slots, used, Place { depth, state: edges.edge().next })?;
+        used = note_place(
+            slots,
+            used,
+            Place {
+                depth,
+                state: edges.edge().next,
+            },
+        )?;
         if !edges.advance() {
             return Some(used);
         }
@@ -146,7 +153,14 @@ fn sum_nexts(n: usize, rounds: usize, slots: &[Slot], len: usize, place: Place) 
     let mut total = 0;
     loop {
         let edge = edges.edge();
-        let value = value_of(slots, len, Place { depth: place.depth + 1, state: edge.next });
+        let value = value_of(
+            slots,
+            len,
+            Place {
+                depth: place.depth + 1,
+                state: edge.next,
+            },
+        );
         total = add_product(total, edge.multiplicity, value)?;
         if !edges.advance() {
             return Some(total);

@@ -23,7 +23,11 @@ fn apply_role(round: RoundScenario, start: usize, len: usize, role: Role) -> Rou
     requires within { ⌜ start + len ≤ 64 ⌝ }
     ensures { λ r. ⌜ r ≡ grown round start (replicate len (number role)) ⌝ }
 {
-    let RoundScenario { leader, primary, secondary } = round;
+    let RoundScenario {
+        leader,
+        primary,
+        secondary,
+    } = round;
     match role {
         Role::Outside => round,
         Role::Both => RoundScenario {
@@ -31,8 +35,16 @@ fn apply_role(round: RoundScenario, start: usize, len: usize, role: Role) -> Rou
             primary: set_mask_range(primary, start, len),
             secondary: set_mask_range(secondary, start, len),
         },
-        Role::Secondary => RoundScenario { leader, primary, secondary: set_mask_range(secondary, start, len) },
-        Role::Primary => RoundScenario { leader, primary: set_mask_range(primary, start, len), secondary },
+        Role::Secondary => RoundScenario {
+            leader,
+            primary,
+            secondary: set_mask_range(secondary, start, len),
+        },
+        Role::Primary => RoundScenario {
+            leader,
+            primary: set_mask_range(primary, start, len),
+            secondary,
+        },
     }
 }
 
@@ -49,7 +61,13 @@ fn placed(placement: u64) -> Role
 }
 
 // The round with the first `count` parts, from `start` on, each in its role.
-fn draw_parts(round: RoundScenario, start: usize, parts: [usize; 5], roles: [Role; 4], count: usize) -> RoundScenario
+fn draw_parts(
+    round: RoundScenario,
+    start: usize,
+    parts: [usize; 5],
+    roles: [Role; 4],
+    count: usize,
+) -> RoundScenario
     requires below { ⌜ Below start round ⌝ }
     requires within { ⌜ start + total (take count parts) ≤ 64 ⌝ }
     requires few { ⌜ count ≤ 4 ⌝ }
@@ -84,7 +102,13 @@ fn draw_cell(
     if !led {
         return draw_parts(round, start, parts, roles_from_rank(len, digit), len);
     }
-    let drawn = draw_parts(round, start, parts, roles_from_rank(len - 1, digit / 3), len - 1);
+    let drawn = draw_parts(
+        round,
+        start,
+        parts,
+        roles_from_rank(len - 1, digit / 3),
+        len - 1,
+    );
     apply_role(drawn, start + size - 1, 1, placed(digit % 3))
 }
 
@@ -96,7 +120,11 @@ pub(crate) fn round_at(edges: &Edges, rank: u128) -> RoundScenario
     ensures { λ r. ⌜ r ≡ turns.round (turn-at (now (edges .entry))) rank ⌝ }
 {
     let (first, len) = edges.ranges[edges.leader];
-    let mut drawn = RoundScenario { leader: first + len - 1, primary: 0, secondary: 0 };
+    let mut drawn = RoundScenario {
+        leader: first + len - 1,
+        primary: 0,
+        secondary: 0,
+    };
     let mut left = rank;
     for i in 0..edges.cells {
         let (start, size) = edges.ranges[i];

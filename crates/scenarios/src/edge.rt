@@ -35,7 +35,12 @@ pub(crate) struct Edges {
 
 // Moves on to the next splits of the cells: the last cell that has a next split takes it, and those behind it begin again.
 // False where no cell has one.
-fn next_splits(ranges: &[(usize, usize)], cells: usize, leader: usize, splits: &mut [LocalRefinement]) -> bool
+fn next_splits(
+    ranges: &[(usize, usize)],
+    cells: usize,
+    leader: usize,
+    splits: &mut [LocalRefinement],
+) -> bool
     requires room { ⌜ (cells ≤ length (now ranges)) × (cells ≤ length (now splits)) ⌝ }
     requires filled { ⌜ Fills leader 0 (sizes-in cells (now ranges)) (fill-of cells (now splits)) ⌝ }
     requires small { ⌜ All (λ c. (0 < c) × (c ≤ 64)) (sizes-in cells (now ranges)) ⌝ }
@@ -58,7 +63,12 @@ fn next_splits(ranges: &[(usize, usize)], cells: usize, leader: usize, splits: &
 }
 
 // Sets each cell to its first split.
-fn first_splits(ranges: &[(usize, usize)], cells: usize, leader: usize, splits: &mut [LocalRefinement])
+fn first_splits(
+    ranges: &[(usize, usize)],
+    cells: usize,
+    leader: usize,
+    splits: &mut [LocalRefinement],
+)
     requires room { ⌜ (cells ≤ length (now ranges)) × (cells ≤ length (now splits)) ⌝ }
     requires small { ⌜ All (λ c. (0 < c) × (c ≤ 64)) (sizes-in cells (now ranges)) ⌝ }
     ensures begun { λ _. ⌜ fill-of cells (now (splits .exit)) ≡ first-fill leader 0 (sizes-in cells (now (ranges .entry))) ⌝ }
@@ -93,9 +103,18 @@ impl Edges {
         ensures { λ r. ⌜ Begun n (cells.cells n (state .boundaries)) r ⌝ }
     {
         let (ranges, cells) = state.ranges(n);
-        let mut refinements = [LocalRefinement { parts: [0; 5], len: 0 }; 64];
+        let mut refinements = [LocalRefinement {
+            parts: [0; 5],
+            len: 0,
+        }; 64];
         first_splits(&ranges, cells, 0, &mut refinements);
-        Edges { n, ranges, cells, leader: 0, refinements }
+        Edges {
+            n,
+            ranges,
+            cells,
+            leader: 0,
+            refinements,
+        }
     }
 
     // Moves on to the next edge; false at the last.
@@ -131,7 +150,11 @@ impl Edges {
         }
         // no boundary stands after the last participant of all
         let boundaries = ends & ((1 << (self.n - 1)) - 1);
-        TransitionEdge { next: CellState { boundaries }, leader: self.leader, multiplicity }
+        TransitionEdge {
+            next: CellState { boundaries },
+            leader: self.leader,
+            multiplicity,
+        }
     }
 }
 

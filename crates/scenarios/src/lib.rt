@@ -23,6 +23,8 @@ mod round;
 mod unrank;
 
 pub use cell::CellState;
+pub use cell::CellStateDebug;
+pub use cell::CellStatePartialEq;
 pub use counted::CountRefused;
 pub use counted::CountedPlan;
 pub use counting::Place;
@@ -30,10 +32,12 @@ pub use counting::Slot;
 pub use edge::TransitionEdge;
 pub use edge::edge_at;
 pub use mode::Mode;
-pub use plan::Plan;
 pub use mode::ModeDebug;
 pub use mode::ModePartialEq;
+pub use plan::Plan;
 pub use round::RoundScenario;
+pub use round::RoundScenarioDebug;
+pub use round::RoundScenarioPartialEq;
 
 // Worked numbers, of the definitions that the other contracts cite.
 pub fn worked_stand() -> u8

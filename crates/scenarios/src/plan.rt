@@ -19,7 +19,12 @@ pub struct Plan {
 }
 
 // The first rule that a plan breaks.
-pub(crate) fn fault_in(participants: usize, faults: usize, rounds: usize, cap: u64) -> Option<Refusal>
+pub(crate) fn fault_in(
+    participants: usize,
+    faults: usize,
+    rounds: usize,
+    cap: u64,
+) -> Option<Refusal>
     ensures { λ r. ⌜ elim r [ None ↦ plan-fault participants faults rounds cap ≡ None | Some e ↦ plan-fault participants faults rounds cap ≡ Some (number-of e) ] ⌝ }
 {
     if participants < 2 {
@@ -43,15 +48,28 @@ pub(crate) fn fault_in(participants: usize, faults: usize, rounds: usize, cap: u
 
 impl Plan {
     // A plan with these numbers, unless they break a rule; the first rule broken is the refusal.
-    pub fn new(participants: usize, faults: usize, rounds: usize, mode: Mode, cap: u64) -> Result<Plan, Refusal>
+    pub fn new(
+        participants: usize,
+        faults: usize,
+        rounds: usize,
+        mode: Mode,
+        cap: u64,
+    ) -> Result<Plan, Refusal>
         ensures { λ r. ⌜ elim r [
-            Ok p ↦ (plan-fault participants faults rounds cap ≡ None)
-                × (p .participants ≡ participants) × (p .faults ≡ faults) × (p .rounds ≡ rounds) × (p .mode ≡ mode) × (p .cap ≡ cap)
-            | Err e ↦ plan-fault participants faults rounds cap ≡ Some (number-of e) ] ⌝ }
+          | Ok p ↦ (plan-fault participants faults rounds cap ≡ None)
+              × (p .participants ≡ participants) × (p .faults ≡ faults) × (p .rounds ≡ rounds) × (p .mode ≡ mode) × (p .cap ≡ cap)
+          | Err e ↦ plan-fault participants faults rounds cap ≡ Some (number-of e)
+        ] ⌝ }
     {
         match fault_in(participants, faults, rounds, cap) {
             Some(refusal) => Err(refusal),
-            None => Ok(Plan { participants, faults, rounds, mode, cap }),
+            None => Ok(Plan {
+                participants,
+                faults,
+                rounds,
+                mode,
+                cap,
+            }),
         }
     }
 

@@ -20,7 +20,12 @@ use crate::unrank::unrank_in;
 use refusals::Refusal;
 
 // The scenario of this rank, all its rounds: in sustained mode the one round that is ranked is repeated.
-fn unrank_plan(plan: &Plan, rank: u64, memory: &[Slot], rounds: &mut [RoundScenario]) -> Option<CellState>
+fn unrank_plan(
+    plan: &Plan,
+    rank: u64,
+    memory: &[Slot],
+    rounds: &mut [RoundScenario],
+) -> Option<CellState>
     requires { ⌜ (0 < now plan .participants) × (now plan .participants ≤ 64) × (0 < now plan .rounds) × (now plan .rounds ≤ length (now rounds)) ⌝ }
     ensures { λ r. ⌜ ((total : ℕ) → Counted (now (plan .entry)) total (now (memory .entry)) → rank < total → Unranked-told (now (plan .entry)) rank (now (rounds .entry)) r (now (rounds .exit))) ⌝ }
 {

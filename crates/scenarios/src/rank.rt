@@ -20,7 +20,14 @@ use crate::unrank::interval;
 
 // The rank, among the scenarios from a state, of the first one that begins with the round that was read.
 // It is that if the slots hold the counts; none only if they do not.
-fn rank_before(n: usize, rounds: usize, depth: usize, state: CellState, read: RoundRank, slots: &[Slot]) -> Option<u64>
+fn rank_before(
+    n: usize,
+    rounds: usize,
+    depth: usize,
+    state: CellState,
+    read: RoundRank,
+    slots: &[Slot],
+) -> Option<u64>
     requires { ⌜ (0 < n) × (n ≤ 64) × (depth < rounds) ⌝ }
     ensures { λ r. ⌜ (count rounds (n ∷ []) < 2 ^ 64 → take (length (entries n rounds)) (now (slots .entry)) ≡ entries n rounds → Among (layer n depth) (state .boundaries) → (t : Turn) → Tells n (state .boundaries) read t → First-told (rounds - (depth + 1)) (cells n (state .boundaries)) t (read .rank) r) ⌝ }
 {

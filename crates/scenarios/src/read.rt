@@ -46,7 +46,10 @@ pub(crate) struct RoundRank {
 fn role_number(round: &RoundScenario, i: usize) -> u8
     ensures { λ r. ⌜ r ≡ role (now (round .entry)) i ⌝ }
 {
-    match (mask_contains(round.primary, i), mask_contains(round.secondary, i)) {
+    match (
+        mask_contains(round.primary, i),
+        mask_contains(round.secondary, i),
+    ) {
         (false, false) => 0,
         (true, true) => 1,
         (false, true) => 2,
@@ -60,11 +63,19 @@ fn read_member(reading: Reading, next: u8) -> Option<Reading>
     requires below { ⌜ (next < 4) × (length (spelled reading) < 64) ⌝ }
     ensures { λ r. ⌜ Member-read (spelled reading) next r ⌝ }
 {
-    let Reading { mut parts, len, roles } = reading;
+    let Reading {
+        mut parts,
+        len,
+        roles,
+    } = reading;
     let above = roles >> next;
     if above == 0 {
         parts[len] = 1;
-        return Some(Reading { parts, len: len + 1, roles: roles + (1 << next) });
+        return Some(Reading {
+            parts,
+            len: len + 1,
+            roles: roles + (1 << next),
+        });
     }
     if above == 1 {
         parts[len - 1] += 1;
@@ -78,7 +89,11 @@ fn read_parts(round: &RoundScenario, start: usize, len: usize) -> Option<Reading
     requires { ⌜ start + len ≤ 64 ⌝ }
     ensures { λ r. ⌜ Parts-read (now (round .entry)) start len r ⌝ }
 {
-    let mut reading = Reading { parts: [0; 5], len: 0, roles: 0 };
+    let mut reading = Reading {
+        parts: [0; 5],
+        len: 0,
+        roles: 0,
+    };
     for idx in start..start + len {
         reading = read_member(reading, role_number(round, idx))?;
     }
@@ -100,7 +115,12 @@ fn choice_rank(roles: u8) -> u64
 }
 
 // How the cell of the `size` participants from `start` on is split, and the number of its letters.
-fn read_cell(round: &RoundScenario, start: usize, size: usize, led: bool) -> Option<(LocalRefinement, u64)>
+fn read_cell(
+    round: &RoundScenario,
+    start: usize,
+    size: usize,
+    led: bool,
+) -> Option<(LocalRefinement, u64)>
     requires within { ⌜ (0 < size) × (start + size ≤ 64) ⌝ }
     requires placed { ⌜ Placed led start size (now round .leader) ⌝ }
     ensures { λ r. ⌜ Cell-read (now (round .entry)) start size led r ⌝ }
@@ -109,14 +129,24 @@ fn read_cell(round: &RoundScenario, start: usize, size: usize, led: bool) -> Opt
         let Reading { parts, len, roles } = read_parts(round, start, size)?;
         return Some((LocalRefinement { parts, len }, choice_rank(roles)));
     }
-    let Reading { mut parts, len, roles } = read_parts(round, start, size - 1)?;
+    let Reading {
+        mut parts,
+        len,
+        roles,
+    } = read_parts(round, start, size - 1)?;
     let heard = role_number(round, round.leader);
     if heard == 0 {
         return None;
     }
     parts[len] = 1;
     // Primary, secondary and both are the placements 0, 1 and 2 of a leader.
-    Some((LocalRefinement { parts, len: len + 1 }, choice_rank(roles) * 3 + u64::from(3 - heard)))
+    Some((
+        LocalRefinement {
+            parts,
+            len: len + 1,
+        },
+        choice_rank(roles) * 3 + u64::from(3 - heard),
+    ))
 }
 
 // How many ways there are to give this many parts their letters; the last part of a led cell is the leader.
@@ -124,7 +154,11 @@ fn letter_ways(led: bool, count: usize) -> u64
     requires { ⌜ (led ≡ true → 0 < count) ⌝ }
     ensures { λ r. ⌜ r ≡ choose (count - cond led 1 0) * cond led 3 1 ⌝ }
 {
-    if led { role_subset_count(count - 1) * 3 } else { role_subset_count(count) }
+    if led {
+        role_subset_count(count - 1) * 3
+    } else {
+        role_subset_count(count)
+    }
 }
 
 // The mask with a bit at the last member of each part, where the first part begins at `start`.
@@ -157,7 +191,12 @@ fn add_cell(tally: Tally, start: usize, refinement: LocalRefinement, digit: u64,
 }
 
 // The splits and the letters of all cells. The last cell is read first, since the first one has the lowest digit.
-fn read_cells(round: &RoundScenario, ranges: [(usize, usize); 64], count: usize, leader_cell: usize) -> Option<Tally>
+fn read_cells(
+    round: &RoundScenario,
+    ranges: [(usize, usize); 64],
+    count: usize,
+    leader_cell: usize,
+) -> Option<Tally>
     requires { ⌜ Led-ranges count «leader_cell» (now round .leader) ranges ⌝ }
     ensures { λ r. ⌜ Cells-read (now (round .entry)) «leader_cell» (sizes-in count ranges) r ⌝ }
 {
@@ -215,6 +254,12 @@ pub(crate) fn read_round(n: usize, state: CellState, round: RoundScenario) -> Op
     let leader_cell = leading_range(ranges, count, round.leader)?;
     let Tally { rank, marks } = read_cells(&round, ranges, count, leader_cell)?;
     // No bit stands for the last participant of all.
-    let next = CellState { boundaries: marks % (1 << (n - 1)) };
-    Some(RoundRank { leader_cell, next, rank })
+    let next = CellState {
+        boundaries: marks % (1 << (n - 1)),
+    };
+    Some(RoundRank {
+        leader_cell,
+        next,
+        rank,
+    })
 }

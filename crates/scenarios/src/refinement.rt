@@ -10,7 +10,6 @@ ghost use Rattle.scenarios.specs.Fits.{Split};
 ghost use Rattle.scenarios.specs.Steps.{first-split, next-composition, next-split};
 ghost use Rattle.scenarios.specs.Turns.{ways};
 ghost use Rattle.scenarios.specs.Refinements.{sizes, Last-above, Composed, Refined};
-
 use crate::role::role_subset_count;
 
 // The sizes of the parts of a cell, the first `len` of them.
@@ -64,11 +63,20 @@ impl LocalRefinement {
         ensures { λ r. ⌜ (sizes r ≡ first-split led size) × (r .len ≤ 5) ⌝ }
     {
         if !led {
-            LocalRefinement { parts: [size, 0, 0, 0, 0], len: 1 }
+            LocalRefinement {
+                parts: [size, 0, 0, 0, 0],
+                len: 1,
+            }
         } else if size == 1 {
-            LocalRefinement { parts: [1, 0, 0, 0, 0], len: 1 }
+            LocalRefinement {
+                parts: [1, 0, 0, 0, 0],
+                len: 1,
+            }
         } else {
-            LocalRefinement { parts: [size - 1, 1, 0, 0, 0], len: 2 }
+            LocalRefinement {
+                parts: [size - 1, 1, 0, 0, 0],
+                len: 2,
+            }
         }
     }
 
@@ -85,7 +93,10 @@ impl LocalRefinement {
         }
         let (mut parts, len) = next_composition(parts, len - 1)?;
         parts[len] = 1;
-        Some(LocalRefinement { parts, len: len + 1 })
+        Some(LocalRefinement {
+            parts,
+            len: len + 1,
+        })
     }
 
     // How many ways there are to give the parts their letters; a leader is placed in three ways.
@@ -94,6 +105,10 @@ impl LocalRefinement {
         requires some { ⌜ (led ≡ true → 0 < self .len) ⌝ }
         ensures { λ r. ⌜ r ≡ ways led (sizes self) ⌝ }
     {
-        if led { role_subset_count(self.len - 1) * 3 } else { role_subset_count(self.len) }
+        if led {
+            role_subset_count(self.len - 1) * 3
+        } else {
+            role_subset_count(self.len)
+        }
     }
 }

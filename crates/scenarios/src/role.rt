@@ -7,7 +7,6 @@ ghost use lib.ListN.{length, set, take};
 ghost use Rattle.std.specs.Finite.{nth};
 ghost use Rattle.scenarios.specs.Turns.{choices, choose, roles-in, subset};
 ghost use Rattle.scenarios.specs.Roles.{number, letters};
-
 use crate::mask::mask_contains;
 use crate::place::put_if;
 
@@ -74,7 +73,12 @@ fn roles_of(mask: u8) -> [Role; 4]
     let mut roles = [Role::Outside; 4];
     let mut next: usize = 0;
     for bit in 0..4usize {
-        next = put_if(mask_contains(mask as u64, bit), &mut roles, next, role_at(bit));
+        next = put_if(
+            mask_contains(mask as u64, bit),
+            &mut roles,
+            next,
+            role_at(bit),
+        );
     }
     roles
 }

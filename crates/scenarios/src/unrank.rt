@@ -35,7 +35,14 @@ pub(crate) fn interval(multiplicity: u128, suffix: u64) -> Option<u64>
 
 // The first round of the continuation of rank `rank` from a state at a depth, by the counts in the slots. Where these are
 // the counts of the plan, there is one.
-fn first_round(n: usize, rounds: usize, depth: usize, state: CellState, rank: u64, slots: &[Slot]) -> Option<Step>
+fn first_round(
+    n: usize,
+    rounds: usize,
+    depth: usize,
+    state: CellState,
+    rank: u64,
+    slots: &[Slot],
+) -> Option<Step>
     requires { ⌜ (0 < n) × (n ≤ 64) × (depth < rounds) ⌝ }
     ensures { λ r. ⌜ (count rounds (n ∷ []) < 2 ^ 64 → take (length (entries n rounds)) (now (slots .entry)) ≡ entries n rounds
         → Among (layer n depth) (state .boundaries) → rank < count (rounds - depth) (cellular.cells n (state .boundaries))
@@ -50,7 +57,11 @@ fn first_round(n: usize, rounds: usize, depth: usize, state: CellState, rank: u6
         if left < size {
             let number = u128::from(left / suffix);
             let round = round_at(&edges, number);
-            return Some(Step { round, next: edge.next, left: left % suffix });
+            return Some(Step {
+                round,
+                next: edge.next,
+                left: left % suffix,
+            });
         }
         left -= size;
         if !edges.advance() {
@@ -60,7 +71,13 @@ fn first_round(n: usize, rounds: usize, depth: usize, state: CellState, rank: u6
 }
 
 // Writes the scenario of this rank from the first slot on, and answers the state that it leaves.
-pub(crate) fn unrank_in(n: usize, rounds: usize, rank: u64, slots: &[Slot], out: &mut [RoundScenario]) -> Option<CellState>
+pub(crate) fn unrank_in(
+    n: usize,
+    rounds: usize,
+    rank: u64,
+    slots: &[Slot],
+    out: &mut [RoundScenario],
+) -> Option<CellState>
     requires { ⌜ (0 < n) × (n ≤ 64) × (rounds ≤ length (now out)) ⌝ }
     ensures { λ r. ⌜ (count rounds (n ∷ []) < 2 ^ 64 → take (length (entries n rounds)) (now (slots .entry)) ≡ entries n rounds
         → rank < count rounds (n ∷ []) → Rounds-told n rounds rank (now (out .entry)) r (now (out .exit))) ⌝ }

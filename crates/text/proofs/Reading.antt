@@ -17,6 +17,7 @@ use Rattle.scenarios.specs.declared.mode.Mode.{Mode}
 use Rattle.scenarios.specs.declared.mode.Mode.the-variants.{Sampled, Sustained}
 use Rattle.refusals.specs.declared.Refusal.{Refusal}
 use Rattle.refusals.specs.declared.Refusal.the-variants.{PlanLine as Fault}
+use Rattle.refusals.specs.Refusals.{number-of, place-of}
 use Rattle.text.proofs.Fields.{and-then, Got, Faulty, Free, field, field-ok, field-read, field-fine, field-fault, rest-is}
 use Rattle.text.proofs.Digits.{numeral-written, numeral-decimal, free-decimal}
 use Rattle.text.specs.declared.PlanLine.{PlanLine}
@@ -155,7 +156,9 @@ no-line text e l q fit = let w = line-read text l fit .0 in let z : _≡_ {A = �
 -- what a call answers that reads so
 pub sound : (text : List ℕ) (r : Result PlanLine Refusal) → r ≡ reading text → elim r as (λ _. Type 0) [ Ok l ↦ Line text l | Err e ↦ Refused text e ]
 sound text (Ok l) q = read-line text l (sym q)
-sound text (Err e) q = (at-fault text e (sym q), λ l. no-line text e l (sym q))
+sound text (Err e) q =
+    let f = at-fault text e (sym q) in
+    (ap number-of (f .1), ap place-of (f .1) ∙ sym (f .2), λ l. no-line text e l (sym q))
 
 pub one-line : (text : List ℕ) (k l : PlanLine) → Line text k → Line text l → k ≡ l
 one-line text k l p q = let a = line-read text k p .0 in let b = line-read text l q .0 in cc

@@ -17,6 +17,7 @@ use Rattle.scenarios.specs.declared.mode.Mode.{Mode}
 use Rattle.scenarios.specs.declared.mode.Mode.the-variants.{Sampled, Sustained}
 use Rattle.refusals.specs.declared.Refusal.{Refusal}
 use Rattle.refusals.specs.declared.Refusal.the-variants.{PlanLine as Fault}
+use Rattle.refusals.specs.Refusals.{number-of, place-of}
 use Rattle.text.specs.declared.PlanLine.{PlanLine}
 
 -- THE FORM: participants, faults, rounds and mode, each ended by a space (32), and the cap, ended by a line feed (10),
@@ -108,9 +109,9 @@ fault-from text at (f ∷ fs) =
 abbrev pub fault : List ℕ → Option ℕ
 fault text = fault-from text 0 fields
 
--- refused: the cause has the place of the first fault, and the text is no line
+-- refused: the cause is the one that has a place, its place is that of the first fault, and the text is no line
 abbrev pub Refused : List ℕ → Refusal → Type 0
-Refused text e = ((place : ℕ) × (e ≡ Fault place) × (fault text ≡ Some place)) × ((l : PlanLine) → Line text l → ⊥)
+Refused text e = (number-of e ≡ 24) × (place-of e ≡ fault text) × ((l : PlanLine) → Line text l → ⊥)
 
 -- THEOREMS
 

@@ -10,10 +10,10 @@ ghost use Rattle.std.specs.declared.result.Result.the-variants.{Ok, Err};
 ghost use Rattle.text.specs.Lines as lines;
 ghost use lib.ListN.{length};
 ghost use mathlib.Core.Path.{_≡_};
+use refusals::Refusal;
 use scenarios::Mode;
 use scenarios::ModeDebug;
 use scenarios::ModePartialEq;
-use refusals::Refusal;
 
 #[derive(Clone, Copy, PartialEq, Eq, Debug)]
 pub struct PlanLine {
@@ -129,7 +129,7 @@ pub fn lines_stand() -> u8
 }
 
 // Examples of lines, and of places of faults.
-pub fn lines_worked() -> u8
+pub fn lines_worked_stand() -> u8
     ensures { λ _. ⌜ lines.Lines-worked ⌝ }
 {
     0

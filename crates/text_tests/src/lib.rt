@@ -2,10 +2,10 @@
 
 #[cfg(test)]
 mod tests {
-    use scenarios::Mode;
     use refusals::Refusal;
     use refusals::RefusalDebug;
     use refusals::RefusalPartialEq;
+    use scenarios::Mode;
     use std::test::*;
     use text::PlanLine;
     use text::PlanLineDebug;

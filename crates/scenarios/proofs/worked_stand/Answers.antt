@@ -8,4 +8,4 @@ use Rattle.scenarios.proofs.worked_stand.Needs as need
 
 pub returns : need.returns
 unfolding bit round-of roles-in choices choose subset turns weight after round
-returns c = ((refl, lit≤ tt, refl, refl), (refl, refl, refl, refl, refl))
+returns c = ((refl, lit≤ tt, refl, refl), (refl, refl, refl, refl, refl, refl, refl))

@@ -54,9 +54,9 @@ pub loop-used-again : need.loop-used-again
 loop-used-again c = (
   c .if-not-advance .ensures tt .walking,
   λ ps xs h.
-    let m = c .args .depth in
-    let i = c .loop-used .inv .1 ps xs h in
-    let all = noted same-place ps (map (turned m) (left-of (c .of-edges .result))) in
-    let s = note-moved m all (i .0) (c .loop-used .edges) (c .loop-used .inv .0) (i .2) (c .edge .result) (c .edge .ensures) (c .advance .last .self) (c .if-not-advance .ensures tt) in
-    (note same-place (i .0) (place m (c .edge .result .next .boundaries)), c .in-Continue-used .ensures tt (i .0) xs (i .1), s),
+      let m = c .args .depth in
+      let i = c .loop-used .inv .1 ps xs h in
+      let all = noted same-place ps (map (turned m) (left-of (c .of-edges .result))) in
+      let s = note-moved m all (i .0) (c .loop-used .edges) (c .loop-used .inv .0) (i .2) (c .edge .result) (c .edge .ensures) (c .advance .last .self) (c .if-not-advance .ensures tt) in
+      (note same-place (i .0) (place m (c .edge .result .next .boundaries)), c .in-Continue-used .ensures tt (i .0) xs (i .1), s),
 )

@@ -17,13 +17,13 @@ pub loop-total-holds : need.loop-total-holds
 loop-total-holds c = (
   c .of-edges .ensures .walking,
   λ xs i s l q.
-    let n = c .args .n in
-    let R = c .args .rounds in
-    let p = c .args .place in
-    let ts = left-of (c .of-edges .result) in
-    let b = left-begun n (cells n (p .state .boundaries)) (c .of-edges .result) (c .of-edges .ensures) in
-    let a = shares-all n R p ts (c .if-place-rounds .left) b in
-    (shares-found n R (c .args .len) i xs (c .args .slots .now) p ts (c .pre .0) s l q (c .if-place-rounds .left) b, (omega arith)),
+      let n = c .args .n in
+      let R = c .args .rounds in
+      let p = c .args .place in
+      let ts = left-of (c .of-edges .result) in
+      let b = left-begun n (cells n (p .state .boundaries)) (c .of-edges .result) (c .of-edges .ensures) in
+      let a = shares-all n R p ts (c .if-place-rounds .left) b in
+      (shares-found n R (c .args .len) i xs (c .args .slots .now) p ts (c .pre .0) s l q (c .if-place-rounds .left) b, (omega arith)),
 )
 
 pub returns-in-Break-total : need.returns-in-Break-total
@@ -52,8 +52,8 @@ pub loop-total-again : need.loop-total-again
 loop-total-again c = (
   c .if-not-advance .ensures tt .walking,
   λ xs i s l q.
-    let R = c .args .rounds in
-    let p = c .args .place in
-    sum-moved (share R p) (p .depth + 1) (c .args .len) (c .loop-total .total) (entry (c .args .n) R p .value) (c .args .slots .now) (c .loop-total .edges) (c .loop-total .inv .0) (c .loop-total .inv .1 xs i s l q)
-    (c .edge-edge .result) (c .edge-edge .ensures) (c .value-of-value .result) (c .value-of-value .ensures) (c .in-Continue-total .total) (c .advance .last .self) (c .in-Continue-total .ensures tt) (c .if-not-advance .ensures tt),
+      let R = c .args .rounds in
+      let p = c .args .place in
+      sum-moved (share R p) (p .depth + 1) (c .args .len) (c .loop-total .total) (entry (c .args .n) R p .value) (c .args .slots .now) (c .loop-total .edges) (c .loop-total .inv .0) (c .loop-total .inv .1 xs i s l q)
+      (c .edge-edge .result) (c .edge-edge .ensures) (c .value-of-value .result) (c .value-of-value .ensures) (c .in-Continue-total .total) (c .advance .last .self) (c .in-Continue-total .ensures tt) (c .if-not-advance .ensures tt),
 )

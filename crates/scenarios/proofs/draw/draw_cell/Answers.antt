@@ -30,7 +30,8 @@ apply-role-requires c κs =
     record {
       below = led-below (c .args .led) (c .args .size) (c .args .split .len) (c .args .split .parts) (c .args .digit) (c .if-not-led .left) h (c .pre .whole) (c .pre .choice)
           (c .args .round) (c .draw-parts-drawn .result) (c .args .start) (letters (take (c .args .split .len - 1) (c .roles-from-rank-2 .result))) (c .roles-from-rank-2 .ensures) (c .draw-parts-drawn .ensures) (c .pre .below);
-      within = omega arith }
+      within = omega arith;
+    }
 
 pub returns : need.returns
 returns c =

@@ -37,7 +37,8 @@ multiplicity-space-requires c κs =
     let i = c .loop-i .i in
     record {
       short = short-at e (c .pre .walking) i (c .loop-i-test .taken);
-      some = some-refined (eqb i (e .leader)) _ (split-of e i) (split-at e (c .pre .walking) i (c .loop-i-test .taken)) }
+      some = some-refined (eqb i (e .leader)) _ (split-of e i) (split-at e (c .pre .walking) i (c .loop-i-test .taken));
+    }
 
 pub rem-left : need.rem-left
 rem-left c =
@@ -63,7 +64,8 @@ draw-cell-drawn-requires c κs =
       below = subst (λ (g : ℕ × ℕ). Below (g .0) (c .loop-i .drawn)) (sym x) (c .loop-i .inv .below);
       whole = subst (λ (g : ℕ × ℕ). Split (eqb i (e .leader)) (g .1) (sizes (split-of e i))) (sym x) (split-at e w i t);
       within = (range-within e w i t .1, short-at e w i t);
-      choice = digit-of e w i t (c .args .rank) (c .loop-i .left) (c .loop-i .drawn) (c .loop-i .inv) (c .multiplicity-space .result) (c .multiplicity-space .ensures) }
+      choice = digit-of e w i t (c .args .rank) (c .loop-i .left) (c .loop-i .drawn) (c .loop-i .inv) (c .multiplicity-space .result) (c .multiplicity-space .ensures);
+    }
 
 pub div-left : need.div-left
 div-left c =

@@ -20,7 +20,8 @@ next-requires c κs =
     let s = size-small k rs i h (c .pre .room .0) (c .pre .small) in
     record {
       split = back-split l k rs (c .args .splits .now) (c .loop-i .splits) i (c .pre .room .0) (c .pre .room .1) m h b (c .pre .filled);
-      within = (s .0, s .1, short-at k (c .loop-i .splits) i h m (c .loop-i .inv .short)) }
+      within = (s .0, s .1, short-at k (c .loop-i .splits) i h m (c .loop-i .inv .short));
+    }
 
 pub returns-in-Some : need.returns-in-Some
 returns-in-Some c =
@@ -32,7 +33,8 @@ returns-in-Some c =
     let b = back-up l k (sizes-in k rs) (c .args .splits .now) (c .loop-i .splits) (c .loop-i .i) (c .loop-i-test .taken) (c .loop-i .inv) in
     record {
       stepped = back-some l k rs (c .args .splits .now) (c .loop-i .splits) i (c .pre .room .0) (c .pre .room .1) m (omega arith) b (c .in-Some .split) (c .in-Some .ensures tt .0);
-      short = short-set k (c .loop-i .splits) i (c .in-Some .split) (c .loop-i .inv .short) (c .in-Some .ensures tt .1) }
+      short = short-set k (c .loop-i .splits) i (c .in-Some .split) (c .loop-i .inv .short) (c .in-Some .ensures tt .1);
+    }
 
 pub first-requires : need.first-requires
 first-requires c κs = size-small (c .args .cells) (c .args .ranges .now) (c .loop-i .i - 1) (omega arith) (c .pre .room .0) (c .pre .small) .0
@@ -50,4 +52,5 @@ loop-i-again c =
 pub returns : need.returns
 returns c = record {
   stepped = back-all (c .args .leader) (c .args .cells) (sizes-in (c .args .cells) (c .args .ranges .now)) (c .args .splits .now) (c .loop-i .splits) (c .loop-i .i) (omega arith) (c .loop-i .inv);
-  short = c .loop-i .inv .short }
+  short = c .loop-i .inv .short;
+}

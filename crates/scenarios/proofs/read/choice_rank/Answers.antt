@@ -13,12 +13,12 @@ pub loop-mask-again : need.loop-mask-again
 loop-mask-again c =
     let more = alike-more (c .args .roles) (c .loop-mask .mask) in
     elim (c .if-mask-roles .came) [
-      then-mask-roles w ↦
-        let one = ap {B = ℕ} (λ b. cond b 1 0) (eq-eqb (ones (c .loop-mask .mask)) (ones (c .args .roles)) (w .if-mask-roles .taken)) in
-        (omega (arith, w .rank-is), omega (arith, w .rank-is, more, one))
-    | else-mask-roles w ↦
-        let none = ap {B = ℕ} (λ b. cond b 1 0) (ne-eqb (ones (c .loop-mask .mask)) (ones (c .args .roles)) (w .if-mask-roles .left)) in
-        (omega (arith, w .rank-is), omega (arith, w .rank-is, more, none))
+      | then-mask-roles w ↦
+          let one = ap {B = ℕ} (λ b. cond b 1 0) (eq-eqb (ones (c .loop-mask .mask)) (ones (c .args .roles)) (w .if-mask-roles .taken)) in
+          (omega (arith, w .rank-is), omega (arith, w .rank-is, more, one))
+      | else-mask-roles w ↦
+          let none = ap {B = ℕ} (λ b. cond b 1 0) (ne-eqb (ones (c .loop-mask .mask)) (ones (c .args .roles)) (w .if-mask-roles .left)) in
+          (omega (arith, w .rank-is), omega (arith, w .rank-is, more, none))
     ]
 
 pub returns : need.returns

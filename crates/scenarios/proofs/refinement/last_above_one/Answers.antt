@@ -13,8 +13,7 @@ returns-then-parts-i-gt1 c =
     let ps = c .args .parts in
     let i : ℕ = c .loop-i .i - 1 in
     let l = length-take-le n ps (omega arith) in
-    let a : i < n = omega arith in
-    (
+    let a : i < n = omega arith in (
       omega arith,
       rw (getD-take n ps i 0 a) (c .if-parts-i-gt1 .taken),
       λ k h h′. let b : k < n = omega arith in rw (getD-take n ps k 0 b) (c .loop-i .inv k (omega arith) b),

@@ -16,19 +16,18 @@ loop-mask-holds c = (omega arith, refl)
 pub loop-mask-again : need.loop-mask-again
 loop-mask-again c =
     let m : c .loop-mask .mask < 16 = omega arith in
-    let o = ones-roles (c .loop-mask .mask) m in
-    (
+    let o = ones-roles (c .loop-mask .mask) m in (
       omega arith,
       elim (c .if-from-len .came) [
-        then-from-len·else-left-eq0 w ↦
-          let e : length (roles-in (c .loop-mask .mask)) ≡ c .args .len = sym o ∙ sym (c .from .ensures) ∙ w .if-from-len .taken in
-          ap (nth (choices-from (c .args .len) (c .loop-mask .mask + 1))) (w .left-is)
-          ∙ sym (ap (λ xs. nth xs (c .loop-mask .left)) (choices-here (c .args .len) (c .loop-mask .mask) m e) ∙ nth-next (c .loop-mask .mask) (choices-from (c .args .len) (c .loop-mask .mask + 1)) (c .loop-mask .left) (omega (arith, w .if-left-eq0 .left)))
-          ∙ c .loop-mask .inv .1
-      | else-from-len w ↦
-          ap (nth (choices-from (c .args .len) (c .loop-mask .mask + 1))) (w .left-is)
-          ∙ sym (ap (λ xs. nth xs (c .loop-mask .left)) (choices-past (c .args .len) (c .loop-mask .mask) m (λ e. w .if-from-len .left (c .from .ensures ∙ o ∙ e))))
-          ∙ c .loop-mask .inv .1
+        | then-from-len·else-left-eq0 w ↦
+            let e : length (roles-in (c .loop-mask .mask)) ≡ c .args .len = sym o ∙ sym (c .from .ensures) ∙ w .if-from-len .taken in
+            ap (nth (choices-from (c .args .len) (c .loop-mask .mask + 1))) (w .left-is)
+            ∙ sym (ap (λ xs. nth xs (c .loop-mask .left)) (choices-here (c .args .len) (c .loop-mask .mask) m e) ∙ nth-next (c .loop-mask .mask) (choices-from (c .args .len) (c .loop-mask .mask + 1)) (c .loop-mask .left) (omega (arith, w .if-left-eq0 .left)))
+            ∙ c .loop-mask .inv .1
+        | else-from-len w ↦
+            ap (nth (choices-from (c .args .len) (c .loop-mask .mask + 1))) (w .left-is)
+            ∙ sym (ap (λ xs. nth xs (c .loop-mask .left)) (choices-past (c .args .len) (c .loop-mask .mask) m (λ e. w .if-from-len .left (c .from .ensures ∙ o ∙ e))))
+            ∙ c .loop-mask .inv .1
       ],
     )
 

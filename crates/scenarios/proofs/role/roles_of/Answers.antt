@@ -10,8 +10,7 @@ pub loop-bit-again : need.loop-bit-again
 loop-bit-again c =
     let b : Bool = c .mask-contains .result in
     let e = c .put-if-next .ensures in
-    let m = put-most b in
-    (
+    let m = put-most b in (
       omega arith,
       ap length (e .written) ∙ length-put b (c .loop-bit .roles) (c .loop-bit .next) (c .role-at .result) ∙ c .loop-bit .inv .1,
       collect-more (c .args .mask) (c .loop-bit .bit) (c .loop-bit .next) (c .loop-bit .roles) (c .put-if-next .last .out) (c .role-at .result) b (c .put-if-next .result) (omega arith) (c .loop-bit .inv .2) (c .role-at .ensures) (c .mask-contains .ensures) (e .written) (e .place),

@@ -16,9 +16,9 @@ Inv-loop-size l =
     Walking (l .edges)
     × (cells-at (l .edges) ≡ cells-at (l .entry .edges))
     × ((s : ℕ) → cells-at (l .entry .edges) ≡ cells (l .n) s → count (l .rounds) (l .n ∷ []) < 2 ^ 64
-       → take (length (entries (l .n) (l .rounds))) (l .slots) ≡ entries (l .n) (l .rounds) → Among (layer (l .n) (l .depth)) s
-       → l .entry .left < count (l .rounds - l .depth) (cells (l .n) s)
-       → Seeking (l .rounds - (l .depth + 1)) (cells (l .n) s) (l .entry .left) (left-of (l .edges)) (l .left))
+    → take (length (entries (l .n) (l .rounds))) (l .slots) ≡ entries (l .n) (l .rounds) → Among (layer (l .n) (l .depth)) s
+    → l .entry .left < count (l .rounds - l .depth) (cells (l .n) s)
+    → Seeking (l .rounds - (l .depth + 1)) (cells (l .n) s) (l .entry .left) (left-of (l .edges)) (l .left))
 
 abbrev pub μ-loop-size : given.MeasureT-loop-size
 μ-loop-size l = length (left-of (l .edges))

@@ -32,11 +32,11 @@ loop-idx-again c =
     let l : length flags ≡ n - 1 = length-map-counting (bit s) 0 (n - 1) in
     let g : getD flags i false ≡ bit s i = getD-map-counting (bit s) 0 (n - 1) i i false (omega arith) (omega arith) in
     let start′ : c .if-ends .start ≡ cond b (i + 1) (c .loop-idx .start) = elim (c .if-ends .came) [
-        then-ends w ↦ w .start-is ∙ sym (ap (λ t. cond t (i + 1) (c .loop-idx .start)) (w .if-ends .taken))
-      | else-ends w ↦ w .start-is ∙ sym (ap (λ t. cond t (i + 1) (c .loop-idx .start)) (w .if-ends .left)) ] in
+      | then-ends w ↦ w .start-is ∙ sym (ap (λ t. cond t (i + 1) (c .loop-idx .start)) (w .if-ends .taken))
+      | else-ends w ↦ w .start-is ∙ sym (ap (λ t. cond t (i + 1) (c .loop-idx .start)) (w .if-ends .left))
+    ] in
     let m = bounds b (c .loop-idx .len) (c .loop-idx .start) i (c .loop-idx .inv .1) (c .loop-idx .inv .2) in
-    let e = ranged-more b rs (c .loop-idx .len) (c .loop-idx .start) i flags (omega arith) (omega arith) (c .boundary-after-ends .ensures ∙ sym g) (c .loop-idx .inv .2) in
-    (
+    let e = ranged-more b rs (c .loop-idx .len) (c .loop-idx .start) i flags (omega arith) (omega arith) (c .boundary-after-ends .ensures ∙ sym g) (c .loop-idx .inv .2) in (
       ap length (c .put-if-len .ensures .written) ∙ length-put b rs (c .loop-idx .len) (c .loop-idx .start, i + 1 - c .loop-idx .start) ∙ c .loop-idx .inv .0,
       rw (start′, c .put-if-len .ensures .place) (m .0),
       rw start′ (m .1),
@@ -51,4 +51,5 @@ returns c =
     let l : length flags ≡ n - 1 = length-map-counting (bit s) 0 (n - 1) in
     record {
       listed = ranged-all (c .loop-idx .ranges) (c .loop-idx .len) (c .loop-idx .start) (c .loop-idx .idx) n flags (omega arith) (omega arith) (omega arith) ∙ c .loop-idx .inv .3;
-      few = omega arith }
+      few = omega arith;
+    }

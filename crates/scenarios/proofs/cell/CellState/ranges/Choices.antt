@@ -14,4 +14,4 @@ Inv-loop-idx l =
     × (l .len ≤ l .start)
     × (l .start ≤ l .idx)
     × (take (l .len) (l .ranges) ++ ranges-from (l .start) (cut (l .idx + 1 - l .start) (drop (l .idx) (map (bit (l .self .boundaries)) (counting 0 (l .n - 1)))))
-       ≡ ranges-from 0 (cells (l .n) (l .self .boundaries)))
+    ≡ ranges-from 0 (cells (l .n) (l .self .boundaries)))

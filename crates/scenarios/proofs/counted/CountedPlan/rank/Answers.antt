@@ -11,7 +11,8 @@ pub returns-in-Some-shape-fault : need.returns-in-Some-shape-fault
 returns-in-Some-shape-fault c =
     record {
       told = λ k. c .in-Some-shape-fault .ensures tt;
-      corresponds = corresponds (c .args .self .now .plan) (c .args .self .now .total) (c .args .self .now .memory .now) }
+      corresponds = corresponds (c .args .self .now .plan) (c .args .self .now .total) (c .args .self .now .memory .now);
+    }
 
 pub returns-in-Some-rank-in : need.returns-in-Some-rank-in
 returns-in-Some-rank-in c =
@@ -22,7 +23,8 @@ returns-in-Some-rank-in c =
     let d = c .depth .result in
     record {
       told = λ k. ranked p total d mem rs (take (d - 0) rs) (Some (c .in-Some-rank-in .rank)) k (c .in-rest-shape-fault .ensures tt .0) (c .depth .ensures) (ap (λ e. take e rs) (omega arith)) (c .in-Some-rank-in .ensures tt);
-      corresponds = corresponds p total mem }
+      corresponds = corresponds p total mem;
+    }
 
 pub returns-in-None : need.returns-in-None
 returns-in-None c =
@@ -33,4 +35,5 @@ returns-in-None c =
     let d = c .depth .result in
     record {
       told = λ k. inr (refl, c .in-rest-shape-fault .ensures tt .1, ranked p total d mem rs (take (d - 0) rs) None k (c .in-rest-shape-fault .ensures tt .0) (c .depth .ensures) (ap (λ e. take e rs) (omega arith)) (c .in-None .ensures tt));
-      corresponds = corresponds p total mem }
+      corresponds = corresponds p total mem;
+    }

@@ -12,7 +12,8 @@ next-splits-requires c κs = record {
   room = (omega arith, omega arith);
   filled = c .pre .fits .split;
   small = walk-small (c .args .self .now) (c .pre);
-  short = c .pre .short }
+  short = c .pre .short;
+}
 
 pub returns-then-next-splits : need.returns-then-next-splits
 returns-then-next-splits c =
@@ -30,7 +31,8 @@ returns-then-leader-cells c = walk-stays (c .args .self .now) (c .pre) (c .if-ne
 pub first-splits-requires : need.first-splits-requires
 first-splits-requires c κs = record {
   room = (omega arith, let k = c .next-splits .kept .splits in omega arith);
-  small = walk-small (c .args .self .now) (c .pre) }
+  small = walk-small (c .args .self .now) (c .pre);
+}
 
 pub returns : need.returns
 returns c =

@@ -27,7 +27,8 @@ add-local-boundaries-ends-requires c κs =
     record {
       below = subst (λ (g : ℕ × ℕ). c .loop-i .ends < 2 ^ (g .0)) (sym x) (summed-below e (c .pre) i (c .loop-i .ends) (c .loop-i .multiplicity) (c .loop-i .inv));
       filled = split .filled;
-      within = (omega arith, short-at e (c .pre) i h) }
+      within = (omega arith, short-at e (c .pre) i h);
+    }
 
 pub multiplicity-requires : need.multiplicity-requires
 multiplicity-requires c κs =
@@ -35,7 +36,8 @@ multiplicity-requires c κs =
     let i = c .loop-i .i in
     record {
       short = short-at e (c .pre) i (c .loop-i-test .taken);
-      some = some-refined (eqb i (e .leader)) _ (split-of e i) (split-at e (c .pre) i (c .loop-i-test .taken)) }
+      some = some-refined (eqb i (e .leader)) _ (split-of e i) (split-at e (c .pre) i (c .loop-i-test .taken));
+    }
 
 again : (c : need.After-multiplicity) → Summed (c .args .self .now) (c .loop-i .i + 1) (c .add-local-boundaries-ends .result) (c .loop-i .multiplicity * c .multiplicity .result)
 again c =

@@ -23,7 +23,8 @@ first-splits-requires c κs =
     let t = w .whole in
     record {
       room = (omega arith, omega arith);
-      small = subst (All (λ k. (0 < k) × (k ≤ 64))) (sym e) (small-cells 64 (cells n s) (w .filled) (omega arith)) }
+      small = subst (All (λ k. (0 < k) × (k ≤ 64))) (sym e) (small-cells 64 (cells n s) (w .filled) (omega arith));
+    }
 
 pub returns : need.returns
 returns c =

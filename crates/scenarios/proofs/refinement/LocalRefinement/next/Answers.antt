@@ -26,7 +26,8 @@ next-composition-requires-2 c κs =
     record {
       few = omega arith;
       filled = subst (All (λ p. 0 < p)) e (all-take (λ p. 0 < p) (n - 1) (take n ps) (c .pre .split .filled));
-      small = rw (← e) (omega arith) }
+      small = rw (← e) (omega arith);
+    }
 
 -- the leader's cell
 led-next : (led : Bool) (ps : List ℕ) (o : Option (List ℕ)) → led ≡ true → next-split true ps ≡ o → next-split led ps ≡ o
