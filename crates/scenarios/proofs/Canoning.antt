@@ -1,7 +1,6 @@
 -- Rounds read one after the other: legal, in order so far, and the state that they leave.
-use mathlib.Core.Path.{_≡_, refl, sym, ap, subst, _∙_}
-use mathlib.Core.Bool.{Bool, true, false, cond, not}
-use mathlib.Core.Logic.{_↔_}
+use mathlib.Core.Path.{_≡_, sym, ap, subst, _∙_}
+use mathlib.Core.Bool.{Bool, true, false, not}
 use mathlib.Core.List.{List, [], _∷_, _++_, map}
 use Prim.Native.Nat.{ℕ, zero, suc, _+_, _-_, _^_, _<_, _≤_}
 use native.Mathlib.Omega.{arith}
@@ -11,16 +10,16 @@ use Rattle.std.specs.Iters.{counting}
 use Rattle.std.specs.shelf.Lists.{All}
 use Rattle.std.proofs.shelf.Lists.{take-more, drop-more, take-append-drop, append-assoc, append-nil, take-all}
 use Rattle.std.proofs.shelf.Elements.{all-push, all-getD}
-use Rattle.std.proofs.shelf.Tests.{lt-ltb, le-ltb, cond-true, cond-false, ltb-true, false≢true}
+use Rattle.std.proofs.shelf.Tests.{lt-ltb, le-ltb, cond-true, cond-false, false≢true}
 use Rattle.std.proofs.shelf.Counted.{getD-map-counting, length-map-counting}
 use Rattle.std.proofs.shelf.Bits.{pow-pos}
 use Rattle.scenarios.specs.declared.round.RoundScenario.{RoundScenario}
 use Rattle.scenarios.specs.Masks.{bit}
-use Rattle.scenarios.specs.Cells.{Cells-of, cut, cells, boundaries, inner}
+use Rattle.scenarios.specs.Cells.{cut, cells, boundaries, inner}
 use Rattle.scenarios.specs.Turns.{Turn, after, weight, round}
 use Rattle.scenarios.specs.Fits.{Fits}
 use Rattle.scenarios.specs.Canonical.{Legal-round, Together, In-order, Canonical, Residual}
-use Rattle.scenarios.specs.Claims.{Ordered, Round-stands}
+use Rattle.scenarios.specs.Claims.{Ordered}
 use Rattle.scenarios.proofs.States.{cells-stand, cells-boundaries, boundaries-below}
 use Rattle.scenarios.proofs.Rounding.{rounds-stand}
 use Rattle.scenarios.proofs.Neighbours.{Follows, follows-at, canonical-from, canonical-to, Tied, tied-first, tied-step}

@@ -3,7 +3,7 @@ use mathlib.Core.Path.{_≡_, refl, sym, ap, subst, _∙_}
 use mathlib.Core.Bool.{Bool, true, false}
 use mathlib.Core.Logic.{_⊎_, inl, inr}
 use mathlib.Core.List.{List, [], _∷_, _++_}
-use Prim.Native.Nat.{ℕ, zero, suc, _+_, _-_, _*_, _/_, _%_, _^_, _<_, _≤_}
+use Prim.Native.Nat.{ℕ, zero, suc, _+_, _-_, _*_, _/_, _%_, _<_, _≤_}
 use native.Mathlib.Omega.{arith}
 use lib.ListN.{length, set, take}
 use Rattle.std.proofs.shelf.Tests.{true≢false, false≢true}
@@ -13,11 +13,11 @@ use Rattle.std.proofs.shelf.Counted.{length-map-counting, map-counting-more}
 use Rattle.scenarios.specs.declared.round.RoundScenario.{RoundScenario}
 use Rattle.scenarios.specs.declared.read.Reading.{Reading}
 use Rattle.scenarios.specs.Letters.{role, letter}
-use Rattle.scenarios.specs.Turns.{roles-in, choose, subset, spell, free, tones}
+use Rattle.scenarios.specs.Turns.{roles-in, subset, spell, free, tones}
 use Rattle.scenarios.specs.Cells.{total}
 use Rattle.scenarios.specs.Readings.{roles-along, letters-along, Reads, Ranks-choice, Placed, Spells-cell}
 use Rattle.scenarios.proofs.Lettering.{letter-is, small}
-use Rattle.scenarios.proofs.Subsets.{choose-table, choose-past}
+use Rattle.scenarios.proofs.Subsets.{choose-most}
 use Rattle.scenarios.proofs.Parting.{total-append}
 use Rattle.scenarios.proofs.Spelling.{length-spell, spell-append}
 
@@ -107,16 +107,8 @@ module _ (r : RoundScenario) (start size : ℕ) (x : Reading) (d : ℕ) (long : 
 
 -- how large the number of a cell's letters is
 
-pub choose-small : (k : ℕ) → (choose k ≤ 6) × (choose k ≤ 4 ^ k) × (choose k * 3 ≤ 4 ^ (k + 1))
-choose-small zero = let t = choose-table in (omega arith, omega arith, omega arith)
-choose-small (suc zero) = let t = choose-table in (omega arith, omega arith, omega arith)
-choose-small (suc (suc zero)) = let t = choose-table in (omega arith, omega arith, omega arith)
-choose-small (suc (suc (suc zero))) = let t = choose-table in (omega arith, omega arith, omega arith)
-choose-small (suc (suc (suc (suc zero)))) = let t = choose-table in (omega arith, omega arith, omega arith)
-choose-small (suc (suc (suc (suc (suc k))))) = let t = choose-past (suc (suc (suc (suc (suc k))))) (omega arith) in (omega arith, omega arith, omega arith)
-
 pub rank-small : (m d : ℕ) → Ranks-choice m d → d < 6
-rank-small m d h = omega (arith, h .0, choose-small (length (roles-in m)))
+rank-small m d h = omega (arith, h .0, choose-most (length (roles-in m)))
 
 -- the same for a cell whose leader is said by a test
 

@@ -1,20 +1,18 @@
 -- The edge at which a walk stands, summed up cell by cell.
 use mathlib.Core.Path.{_≡_, refl, sym, ap, subst, _∙_}
-use mathlib.Core.List.{List, [], _∷_, _++_}
-use Prim.Native.Nat.{ℕ, zero, suc, _+_, _-_, _*_, _%_, _^_, _<_, _≤_}
+use mathlib.Core.List.{List, [], _++_}
+use Prim.Native.Nat.{ℕ, _+_, _-_, _*_, _%_, _^_, _<_, _≤_}
 use native.Mathlib.Omega.{arith}
-use native.Mathlib.Nat.{mul-comm}
 use lib.Dec.{eqb}
 use lib.Bits.{bitAnd}
 use lib.ListN.{length, getD, take}
 use Rattle.std.specs.shelf.Lists.{All, joined}
-use Rattle.std.proofs.shelf.Bits.{and-mask, one-shl, pow-pos}
-use Rattle.std.proofs.shelf.Lists.{take-more, take-all, joined-more, append-nil}
+use Rattle.std.proofs.shelf.Bits.{and-mask, one-shl}
+use Rattle.std.proofs.shelf.Lists.{take-more, take-all, joined-more}
 use Rattle.std.proofs.shelf.Elements.{all-append}
 use Rattle.scenarios.specs.declared.edge.Edges.{Edges}
 use Rattle.scenarios.specs.Cells.{total, ends, boundaries}
 use Rattle.scenarios.specs.Turns.{ways, weight-from, weight, after}
-use Rattle.scenarios.specs.Fits.{Split, Fills}
 use Rattle.scenarios.specs.Refinements.{sizes}
 use Rattle.scenarios.specs.Edges.{cells-at, turn-at, Walking}
 use Rattle.scenarios.proofs.Parting.{total-append}

@@ -1,13 +1,13 @@
 -- The last participants of parts, set bit by bit.
-use mathlib.Core.Path.{_≡_, refl, sym, ap, subst, _∙_}
+use mathlib.Core.Path.{_≡_, sym, ap, subst, _∙_}
 use mathlib.Core.List.{List, [], _∷_, _++_}
 use Prim.Native.Nat.{ℕ, _+_, _-_, _*_, _^_, _<_, _≤_}
 use native.Mathlib.Omega.{arith}
-use native.Mathlib.Nat.{mul-add, mul-assoc, pow-suc}
+use native.Mathlib.Nat.{mul-add}
 use lib.Pow.{pow-mono}
 use lib.ListN.{length, getD, take}
 use Rattle.std.specs.shelf.Lists.{All}
-use Rattle.std.proofs.shelf.Bits.{pow-add, pow-pos}
+use Rattle.std.proofs.shelf.Bits.{pow-add}
 use Rattle.std.proofs.shelf.Lists.{take-more, take-take, getD-take, length-take-le}
 use Rattle.std.proofs.shelf.Elements.{all-getD}
 use Rattle.scenarios.specs.Cells.{total, ends}

@@ -1,16 +1,14 @@
 -- The step to the next splits of all cells, from the last cell back to the first.
 use mathlib.Core.Path.{_≡_, refl, sym, ap, subst, _∙_}
-use mathlib.Core.Bool.{Bool}
 use mathlib.Core.List.{List, [], _∷_, _++_, map}
 use Prim.Native.Nat.{ℕ, zero, suc, _+_, _-_, _<_, _≤_}
 use native.Mathlib.Omega.{arith}
-use native.Mathlib.Numerals.{add-one}
 use lib.Dec.{eqb}
 use lib.ListN.{length, getD, set, take, drop}
 use Rattle.std.specs.shelf.Lists.{All}
 use Rattle.std.specs.declared.option.Option.{Option}
 use Rattle.std.specs.declared.option.Option.the-variants.{Some, None}
-use Rattle.std.proofs.shelf.Lists.{take-more-set, map-push, length-map, drop-all, append-nil, take-all, drop-more, take-more, append-assoc, set-at, length-take-le, getD-at, take-set, map-set, length-append, take-append-drop, getD-map, getD-take}
+use Rattle.std.proofs.shelf.Lists.{take-more-set, map-push, length-map, drop-all, append-nil, take-all, drop-more, take-more, append-assoc, set-at, length-take-le, getD-at, map-set, getD-map, getD-take}
 use Rattle.std.proofs.shelf.Elements.{all-set, all-getD, all-push}
 use Rattle.scenarios.specs.declared.refinement.LocalRefinement.{LocalRefinement}
 use Rattle.scenarios.specs.Steps.{next-split, next-fill, first-fill, first-split}
@@ -20,12 +18,6 @@ use Rattle.scenarios.specs.Edges.{fill-of, sizes-in}
 use Rattle.scenarios.proofs.Composing.{through}
 use Rattle.scenarios.proofs.Walks.{begun, next-fill-is}
 use Rattle.scenarios.proofs.Placing.{take-set-in}
-
-pub fills-long : (l i : ℕ) (cs : List ℕ) (f : List (List ℕ)) → Fills l i cs f → length f ≡ length cs
-fills-long l i [] [] h = refl
-fills-long l i [] (ps ∷ f) h = absurd h
-fills-long l i (c ∷ cs) [] h = absurd h
-fills-long l i (c ∷ cs) (ps ∷ f) h = ap suc (fills-long l (i + 1) cs f (h .1))
 
 pub fills-at : (l i k : ℕ) (cs : List ℕ) (f : List (List ℕ)) → Fills l i cs f → k < length cs → Split (eqb (i + k) l) (getD cs k 0) (getD f k [])
 fills-at l i k [] f h b = absurd (omega arith)

@@ -4,7 +4,7 @@ use mathlib.Core.Bool.{Bool, true, false, cond}
 use mathlib.Core.List.{List, [], _∷_, _++_, map}
 use Prim.Native.Nat.{ℕ, zero, suc, _+_, _-_, _*_, _^_, _<_, _≤_}
 use native.Mathlib.Omega.{arith}
-use native.Mathlib.Nat.{pow-suc, mul-add, mul-assoc, mul-comm, add-assoc}
+use native.Mathlib.Nat.{pow-suc, mul-add, mul-assoc, mul-comm}
 use lib.ListN.{length, replicate}
 use Rattle.std.proofs.shelf.Bits.{pow-pos, pow-add, mul-le}
 use Rattle.std.proofs.shelf.Lists.{map-append, length-map}

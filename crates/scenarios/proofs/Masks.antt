@@ -1,15 +1,13 @@
 -- Masks by their bits: lists of bits packed into masks, and masks told apart by bits. Assumes nothing.
 use mathlib.Core.Path.{_≡_, refl, sym, ap, _∙_}
 use mathlib.Core.Bool.{Bool, true, false, cond}
-use mathlib.Core.List.{List, [], _∷_, _++_, map}
+use mathlib.Core.List.{List, [], _∷_, _++_}
 use Prim.Native.Nat.{ℕ, zero, suc, _+_, _*_, _/_, _%_, _^_, _<_}
 use native.Mathlib.Omega.{arith}
 use native.Mathlib.Nat.{pow-succ', mul-assoc}
 use lib.Dec.{eqb}
 use lib.ListN.{length, getD}
-use Rattle.std.specs.Iters.{counting}
 use Rattle.std.proofs.shelf.Bits.{shr-shr}
-use Rattle.std.proofs.shelf.Counted.{getD-map-counting, length-map-counting}
 use Rattle.std.proofs.shelf.Ways.{tells}
 use Rattle.scenarios.specs.Masks.{bit, pack}
 
@@ -61,9 +59,3 @@ pack-append (b ∷ xs) ys =
     let h = pack-append xs ys in
     let p = ap (λ k. k * pack ys) (pow-succ' 2 (length xs)) ∙ mul-assoc 2 (2 ^ length xs) (pack ys) in
     omega arith
-
-pub pack-bits : (n m : ℕ) → m < 2 ^ n → pack (map (bit m) (counting 0 n)) ≡ m
-pack-bits n m h =
-    let len = length-map-counting (bit m) 0 n in
-    same-mask n _ m (rw len at (pack-below (map (bit m) (counting 0 n)))) h
-    (λ i l. bit-pack (map (bit m) (counting 0 n)) i ∙ getD-map-counting (bit m) 0 n i i false l (omega arith))

@@ -80,16 +80,6 @@ sustained-none n R rs l refuted g c =
     let f = sustained-first n R rs l (g .1) (g .0 .enough) (g .0) c in
     refuted (f .0) (f .1)
 
--- where it is, they are
-pub sustained-whole : (n R : ℕ) (rs : List RoundScenario) → 0 < R → All-alike rs → length rs ≡ R → All (Legal-round n) (take 1 rs) → Canonical n (take 1 rs)
-    → (Legal n R rs × All-alike rs) × Canonical n rs
-sustained-whole n R rs l h e g c =
-    let f = first-repeats R rs l e h in
-    let a = subst (All (Legal-round n)) (f .2) g .0 in (
-      subst (λ xs. Legal n R xs × All-alike xs) (sym (f .1)) (legal-replicate n R (f .0) a),
-      subst (Canonical n) (sym (f .1)) (repeats-canonical n R (f .0) l .1 (subst (Canonical n) (f .2) c)),
-    )
-
 -- a list of one round, repeated
 
 legal-repeated : (n R : ℕ) (xs : List RoundScenario) → Legal n 1 xs → Legal n R (repeated R xs) × All-alike (repeated R xs)

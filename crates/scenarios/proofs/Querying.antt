@@ -1,7 +1,6 @@
 -- What a counted plan answers.
-use mathlib.Core.Path.{_≡_, refl, sym, ap, subst, _∙_}
-use mathlib.Core.Bool.{cond}
-use mathlib.Core.Logic.{_⊎_, inl, inr}
+use mathlib.Core.Path.{_≡_, sym, ap, subst, _∙_}
+use mathlib.Core.Logic.{inr}
 use mathlib.Core.List.{List, [], _∷_, _++_}
 use Prim.Native.Nat.{ℕ, zero, suc, _+_, _-_, _^_, _<_, _≤_}
 use native.Mathlib.Omega.{arith}
@@ -11,7 +10,7 @@ use Rattle.std.specs.declared.option.Option.{Option}
 use Rattle.std.specs.declared.option.Option.the-variants.{Some, None}
 use Rattle.std.specs.declared.result.Result.{Result}
 use Rattle.std.specs.declared.result.Result.the-variants.{Ok, Err}
-use Rattle.std.proofs.shelf.Lists.{append-nil, drop-drop, take-all, length-take-le}
+use Rattle.std.proofs.shelf.Lists.{drop-drop, take-all, length-take-le}
 use Rattle.std.proofs.shelf.Tests.{lt-ltb, le-ltb, le-leb, lt-leb, cond-true, cond-false}
 use Rattle.std.specs.shelf.Lists.{All}
 use Rattle.refusals.specs.declared.Refusal.{Refusal}
@@ -24,7 +23,7 @@ use Rattle.scenarios.specs.declared.round.RoundScenario.{RoundScenario}
 use Rattle.scenarios.specs.Counting.{Slot, entries, CountedAs, RefusedAs}
 use Rattle.scenarios.specs.Cells.{boundaries}
 use Rattle.scenarios.specs.Scenarios.{count, scenario, residual}
-use Rattle.scenarios.specs.Plans.{depth-of, total-of, scenario-of, residual-of, repeated, All-alike, Legal-in, Corresponds-in}
+use Rattle.scenarios.specs.Plans.{depth-of, total-of, scenario-of, residual-of, repeated, Legal-in, Corresponds-in}
 use Rattle.scenarios.specs.PlanCounts.{fault-of, Counted, Plan-counted, Plan-refused, scenario-fault, Shaped}
 use Rattle.scenarios.proofs.Planning.{plan-sound}
 use Rattle.scenarios.proofs.Finding.{counted-front}

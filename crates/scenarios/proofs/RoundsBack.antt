@@ -5,21 +5,21 @@ use mathlib.Core.Logic.{_⊎_, inl, inr}
 use mathlib.Core.List.{List, [], _∷_, _++_, map}
 use Prim.Native.Nat.{ℕ, zero, suc, _+_, _-_, _*_, _/_, _%_, _^_, _<_, _≤_}
 use native.Mathlib.Omega.{arith}
-use native.Mathlib.Nat.{div-eq-of-lt, pow-succ', mul-assoc, mul-comm, mul-add, mul-le-mul-left}
+use native.Mathlib.Nat.{div-eq-of-lt, pow-succ', mul-assoc, mul-add, mul-le-mul-left}
 use lib.Dec.{eqb, leb, ltb}
 use lib.Pow.{pow-mono}
 use lib.ListN.{length, getD, take, drop}
 use Rattle.std.specs.Iters.{counting}
 use Rattle.std.specs.shelf.Lists.{All, joined}
 use Rattle.std.proofs.shelf.Tests.{false≢true, cases-lt, eqb-true, eqb-false, eq-eqb, ne-eqb, lt-ltb, le-ltb, le-leb}
-use Rattle.std.proofs.shelf.Bits.{pow-pos, pow-add, mul-le, mul-add-lt, div-mul-add, mod-mul-add}
-use Rattle.std.proofs.shelf.Lists.{map-append, length-map, length-take, length-take-le, getD-take, take-all, take-more, take-take, drop-all, drop-more, take-append-drop}
-use Rattle.std.proofs.shelf.Elements.{all-append, all-getD, all-take}
+use Rattle.std.proofs.shelf.Bits.{pow-pos, pow-add, mul-add-lt, div-mul-add, mod-mul-add}
+use Rattle.std.proofs.shelf.Lists.{map-append, length-map, length-take, length-take-le, getD-take, take-all, take-more, drop-all, drop-more, take-append-drop}
+use Rattle.std.proofs.shelf.Elements.{all-append, all-getD}
 use Rattle.scenarios.specs.declared.round.RoundScenario.{RoundScenario}
 use Rattle.scenarios.specs.declared.refinement.LocalRefinement.{LocalRefinement}
 use Rattle.scenarios.specs.declared.read.Tally.{Tally}
 use Rattle.scenarios.specs.Letters.{letter}
-use Rattle.scenarios.specs.Turns.{free, ways, tones, spell, weight-from, letters-from}
+use Rattle.scenarios.specs.Turns.{ways, tones, spell, weight-from, letters-from}
 use Rattle.scenarios.specs.Fits.{Split, Fills}
 use Rattle.scenarios.specs.Cells.{total, ends, inner, ranges-from}
 use Rattle.scenarios.specs.Refinements.{sizes}
@@ -28,7 +28,7 @@ use Rattle.scenarios.specs.Readings.{letters-along, Placed, Spells-cell, Cell-
 use Rattle.scenarios.proofs.Parting.{total-append, inner-below, inner-above}
 use Rattle.scenarios.proofs.Celling.{some-part}
 use Rattle.scenarios.proofs.ReadingBack.{quotient}
-use Rattle.scenarios.proofs.CellsBack.{choose-small}
+use Rattle.scenarios.proofs.Weighing.{four-mono, weight-under}
 
 -- letters side by side
 
@@ -74,45 +74,7 @@ marks-below start ps f =
     let i = pow-pos start in
     omega arith
 
--- how large a number is
-
-four-mono : (a b : ℕ) → a ≤ b → 4 ^ a ≤ 4 ^ b
-four-mono a b h =
-    let two : (k : ℕ) → 4 ^ k ≡ 2 ^ k * 2 ^ k = four in
-    let p : 2 ^ a ≤ 2 ^ b = pow-mono h in
-    rw (two a, two b) (mul-le (2 ^ a) (2 ^ a) (2 ^ b) (2 ^ b) p p)
-  where
-    four : (k : ℕ) → 4 ^ k ≡ 2 ^ k * 2 ^ k
-    four zero = refl
-    four (suc k) =
-        let a = pow-succ' 4 k in
-        let b = pow-succ' 2 k in
-        let h = four k in
-        let e : (2 * 2 ^ k) * (2 * 2 ^ k) ≡ 4 * (2 ^ k * 2 ^ k) = mul-assoc 2 (2 ^ k) (2 * 2 ^ k) ∙ ap (λ x. 2 * x) (sym (mul-assoc (2 ^ k) 2 (2 ^ k)) ∙ ap (λ x. x * 2 ^ k) (mul-comm (2 ^ k) 2) ∙ mul-assoc 2 (2 ^ k) (2 ^ k)) ∙ sym (mul-assoc 2 2 (2 ^ k * 2 ^ k)) in
-        a ∙ ap (λ x. 4 * x) h ∙ sym (ap (λ x. x * x) b ∙ e)
-
-length-most : (ps : List ℕ) → All (λ p. 0 < p) ps → length ps ≤ total ps
-length-most [] f = omega arith
-length-most (p ∷ ps) f = let h = length-most ps (f .1) in omega (arith, f .0)
-
-ways-most : (b : Bool) (c : ℕ) (ps : List ℕ) → Split b c ps → ways b ps ≤ 4 ^ c
-ways-most true c ps s =
-    let k = choose-small (free true ps) in
-    let l = length-most ps (s .filled) in
-    let e : free true ps + 1 ≤ c = omega (arith, some-part c ps s, s .whole) in
-    let m = four-mono (free true ps + 1) c e in
-    omega arith
-ways-most false c ps s =
-    let k = choose-small (free false ps) in
-    let l = length-most ps (s .filled) in
-    let m = four-mono (free false ps) c (omega (arith, s .whole)) in
-    omega arith
-
-weight-most : (l i : ℕ) (cs : List ℕ) (f : List (List ℕ)) → Fills l i cs f → weight-from l i f ≤ 4 ^ total cs
-weight-most l i [] [] s = omega arith
-weight-most l i [] (ps ∷ f) s = absurd s
-weight-most l i (c ∷ cs) [] s = absurd s
-weight-most l i (c ∷ cs) (ps ∷ f) s = rw (pow-add 4 c (total cs)) (mul-le (ways (eqb i l) ps) (weight-from l (i + 1) f) (4 ^ c) (4 ^ total cs) (ways-most (eqb i l) c ps (s .0)) (weight-most l (i + 1) cs f (s .1)))
+-- the parts of all cells
 
 pub fill-filled : (l i : ℕ) (cs : List ℕ) (f : List (List ℕ)) → Fills l i cs f → All (λ p. 0 < p) (joined (λ ps. ps) f) × (total (joined (λ ps. ps) f) ≡ total cs)
 fill-filled l i [] [] s = (tt, refl)
@@ -129,7 +91,7 @@ told-none r l i start = record { fill = []; fills = tt; below = omega arith; let
 
 pub told-fits : (r : RoundScenario) (l i start : ℕ) (cs : List ℕ) (t : Tally) → Told r l i start cs t → start + total cs ≤ 64 → Fits-tally t
 told-fits r l i start cs t h k =
-    let a = weight-most l i cs (h .fill) (h .fills) in
+    let a = weight-under l i cs (h .fill) (h .fills) in
     let b = four-mono (total cs) 64 (omega arith) in
     let f = fill-filled l i cs (h .fill) (h .fills) in
     let m = marks-below start (joined (λ ps. ps) (h .fill)) (f .0) in
@@ -193,25 +155,6 @@ total-mono (suc i) (suc j) (x ∷ xs) h = let k = total-mono i j xs (omega arith
 
 pub total-more : (i : ℕ) (xs : List ℕ) → i < length xs → total (take (i + 1) xs) ≡ total (take i xs) + getD xs i 0
 total-more i xs h = ap total (take-more xs i 0 h) ∙ total-append (take i xs) (getD xs i 0 ∷ []) ∙ (let e : total (take i xs) + (getD xs i 0 + 0) ≡ total (take i xs) + getD xs i 0 = omega arith in e)
-
-module _ (start : ℕ) (xs : List ℕ) (i : ℕ) (h : i < length xs) (some : 0 < getD xs i 0) (filled : All (λ p. 0 < p) (take i xs)) where
-  pub mark-below : 2 ^ start * ends (take i xs) < 2 ^ (start + total (take i xs) + getD xs i 0 - 1)
-  mark-below =
-      let a = marks-below start (take i xs) filled in
-      let b : 2 ^ (start + total (take i xs)) ≤ 2 ^ (start + total (take i xs) + getD xs i 0 - 1) = pow-mono (let l : start + total (take i xs) ≤ start + total (take i xs) + getD xs i 0 - 1 = omega arith in l) in
-      omega arith
-
-  pub mark-more : 2 ^ start * ends (take i xs) + 1 * 2 ^ (start + total (take i xs) + getD xs i 0 - 1) ≡ 2 ^ start * ends (take (i + 1) xs)
-  mark-more =
-      let a = ap (λ l. 2 ^ start * ends l) (take-more xs i 0 h) in
-      let b = ap (λ y. 2 ^ start * y) (ends-append (take i xs) (getD xs i 0 ∷ [])) in
-      let e : 2 ^ (getD xs i 0 - 1) + 2 ^ getD xs i 0 * 0 ≡ 2 ^ (getD xs i 0 - 1) = omega arith in
-      let d = ap (λ y. 2 ^ start * (ends (take i xs) + 2 ^ total (take i xs) * y)) e in
-      let f = mul-add (2 ^ start) (ends (take i xs)) (2 ^ total (take i xs) * 2 ^ (getD xs i 0 - 1)) in
-      let g = ap (λ y. 2 ^ start * y) (sym (pow-add 2 (total (take i xs)) (getD xs i 0 - 1))) ∙ sym (pow-add 2 start (total (take i xs) + (getD xs i 0 - 1))) in
-      let k : start + (total (take i xs) + (getD xs i 0 - 1)) ≡ start + total (take i xs) + getD xs i 0 - 1 = omega arith in
-      let m = ap (λ y. 2 ^ y) k in
-      sym (a ∙ b ∙ d ∙ f ∙ (let z : 2 ^ start * ends (take i xs) + 2 ^ start * (2 ^ total (take i xs) * 2 ^ (getD xs i 0 - 1)) ≡ 2 ^ start * ends (take i xs) + 1 * 2 ^ (start + total (take i xs) + getD xs i 0 - 1) = omega (arith, g, m) in z))
 
 -- a mask with no bit from n on
 
@@ -336,29 +279,6 @@ module _ (rs : List (ℕ × ℕ)) (count l : ℕ) (r : RoundScenario) (long : le
       let a = total-append (take j (sizes-in count rs)) (drop j (sizes-in count rs)) in
       let b = ap total (take-append-drop j (sizes-in count rs)) in
       told-fits r l j (total (take j (sizes-in count rs))) (drop j (sizes-in count rs)) t told (omega (arith, led .within))
-
--- the next part of a refinement
-pub record Parts-at (start : ℕ) (x : LocalRefinement) (i : ℕ) : Type 0 where
-  pub some : 0 < getD (x .parts) i 0
-  pub within : total (take i (x .parts)) + getD (x .parts) i 0 ≤ total (sizes x)
-  pub below : 2 ^ start * ends (take i (x .parts)) < 2 ^ (start + total (take i (x .parts)) + getD (x .parts) i 0 - 1)
-  pub marked : 2 ^ start * ends (take i (x .parts)) + 1 * 2 ^ (start + total (take i (x .parts)) + getD (x .parts) i 0 - 1) ≡ 2 ^ start * ends (take (i + 1) (x .parts))
-  pub more : total (take (i + 1) (x .parts)) ≡ total (take i (x .parts)) + getD (x .parts) i 0
-
-pub parts-at : (start : ℕ) (x : LocalRefinement) (i : ℕ) → length (x .parts) ≡ 5 → x .len ≤ 5 → All (λ p. 0 < p) (sizes x) → i < x .len → Parts-at start x i
-parts-at start x i long few filled h = record { some = some; within = omega (arith, total-mono (i + 1) (x .len) (x .parts) (omega arith), more); below = mark-below start (x .parts) i (omega arith) some front; marked = mark-more start (x .parts) i (omega arith) some front; more = more }
-  where
-    n : length (sizes x) ≡ x .len
-    n = length-take-le (x .len) (x .parts) (omega arith)
-
-    some : 0 < getD (x .parts) i 0
-    some = rw (getD-take (x .len) (x .parts) i 0 h) at (all-getD (λ p. 0 < p) (sizes x) i 0 (omega (arith, n)) filled)
-
-    front : All (λ p. 0 < p) (take i (x .parts))
-    front = subst (All (λ p. 0 < p)) (take-take i (x .len) (x .parts) (omega arith)) (all-take (λ p. 0 < p) i (sizes x) filled)
-
-    more : total (take (i + 1) (x .parts)) ≡ total (take i (x .parts)) + getD (x .parts) i 0
-    more = total-more i (x .parts) (omega arith)
 
 pub led-some : (b : Bool) (c : ℕ) (x : LocalRefinement) → Split b c (sizes x) → b ≡ true → 0 < x .len
 led-some false c x s e = absurd (false≢true e)

@@ -11,7 +11,6 @@ use Rattle.std.specs.Iters.{counting}
 use Rattle.std.specs.shelf.Lists.{All}
 use Rattle.std.proofs.shelf.Bits.{pow-pos, pow-add, shr-shr, mod-pow-add, mod-below}
 use Rattle.std.proofs.shelf.Counted.{length-map-counting}
-use Rattle.scenarios.proofs.Parting.{total-append}
 use Rattle.scenarios.specs.Masks.{bit}
 use Rattle.scenarios.specs.Cells.{total, Cells-of, cut, cells, ends, boundaries}
 

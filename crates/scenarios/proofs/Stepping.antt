@@ -3,12 +3,12 @@ use mathlib.Core.Path.{_≡_, refl, sym, ap, subst, _∙_}
 use mathlib.Core.List.{List, [], _∷_, _++_}
 use Prim.Native.Nat.{ℕ, zero, suc, _+_, _-_, _*_, _/_, _%_, _^_, _<_, _≤_}
 use native.Mathlib.Omega.{arith}
-use lib.ListN.{length, getD, set, take, drop}
+use lib.ListN.{length, set, take, drop}
 use Rattle.std.proofs.shelf.Bits.{mul-le}
-use Rattle.std.proofs.shelf.Lists.{take-more-set, append-assoc, append-nil, take-append-drop, drop-set-lt, drop-drop, take-all, drop-all}
+use Rattle.std.proofs.shelf.Lists.{take-more-set, append-assoc, append-nil, take-append-drop, drop-set-lt, drop-drop}
 use Rattle.scenarios.specs.declared.round.RoundScenario.{RoundScenario}
 use Rattle.scenarios.specs.declared.unrank.Step.{Step}
-use Rattle.scenarios.specs.Cells.{Cells-of, cells, boundaries}
+use Rattle.scenarios.specs.Cells.{cells, boundaries}
 use Rattle.scenarios.specs.Turns.{Turn, turns, weight, after, round}
 use Rattle.scenarios.specs.Fits.{Among}
 use Rattle.scenarios.specs.Scenarios.{count, scenario, residual}

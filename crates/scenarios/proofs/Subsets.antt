@@ -1,10 +1,10 @@
 -- The choices of roles, and the search for one of them.
 use mathlib.Core.Path.{_≡_, refl, sym, ap, _∙_}
 use mathlib.Core.Bool.{Bool, true, false, cond, _&&_}
-use mathlib.Core.List.{List, [], _∷_, _++_, map}
+use mathlib.Core.List.{List, [], _∷_, _++_}
 use Prim.Native.Nat.{ℕ, zero, suc, _+_, _-_, _<_, _≤_}
 use native.Mathlib.Omega.{arith}
-use lib.Dec.{eqb, ltb}
+use lib.Dec.{eqb}
 use lib.Count.{ones}
 use lib.ListN.{length, getD, set, take}
 use Rattle.std.specs.Iters.{counting}
@@ -30,9 +30,6 @@ choose-past k h =
     let d = ne-eqb 3 k (λ e. omega arith) in
     let e = ne-eqb 4 k (λ e. omega arith) in
     simp (a, b, c, d, e)
-
-pub choose-at : (k : ℕ) → k ≤ 4 → (m : ℕ) → k ≡ m → choose m ≡ choose k
-choose-at k h m e = ap choose (sym e)
 
 pub choose-table : (choose 0 ≡ 1) × (choose 1 ≡ 4) × (choose 2 ≡ 6) × (choose 3 ≡ 4) × (choose 4 ≡ 1)
 unfolding bit roles-in choices choose

@@ -1,14 +1,12 @@
 -- A turn is told by the cell that leads and the state after it.
 use mathlib.Core.Path.{_≡_, refl, sym, ap, subst, _∙_}
-use mathlib.Core.Logic.{_⊎_, inl, inr}
 use mathlib.Core.List.{List, [], _∷_, _++_}
-use Prim.Native.Nat.{ℕ, zero, suc, _+_, _<_, _≤_}
+use Prim.Native.Nat.{ℕ, _+_, _<_}
 use native.Mathlib.Omega.{arith}
-use lib.Dec.{eqb}
 use Rattle.std.specs.shelf.Lists.{All, joined}
 use Rattle.scenarios.specs.Cells.{total, Cells-of, cells, boundaries}
 use Rattle.scenarios.specs.Turns.{Turn, after}
-use Rattle.scenarios.specs.Fits.{Split, Fills, Fits}
+use Rattle.scenarios.specs.Fits.{Fills, Fits}
 use Rattle.scenarios.proofs.States.{cells-boundaries}
 use Rattle.scenarios.proofs.Rounding.{rounds-stand}
 use Rattle.scenarios.proofs.Weighing.{weight-some}

@@ -1,13 +1,12 @@
 -- How many rounds an edge stands for: at least one, and never more than 128 bits hold.
-use mathlib.Core.Path.{_≡_, refl, sym, ap, subst, _∙_}
-use mathlib.Core.Bool.{Bool, true, false, cond}
+use mathlib.Core.Path.{_≡_, sym, ap, subst, _∙_}
+use mathlib.Core.Bool.{Bool, true, false}
 use mathlib.Core.Logic.{_⊎_, inl, inr}
 use mathlib.Core.List.{List, [], _∷_, _++_}
 use Prim.Native.Nat.{ℕ, zero, suc, _+_, _-_, _*_, _^_, _<_, _≤_}
 use native.Mathlib.Omega.{arith}
 use native.Mathlib.Nat.{mul-assoc, mul-comm, mul-one}
 use lib.Dec.{eqb}
-use lib.Pow.{pow-mono}
 use lib.ListN.{length, getD, take, drop}
 use Rattle.std.specs.shelf.Lists.{All}
 use Rattle.std.proofs.shelf.Bits.{mul-le, pow-add}
@@ -16,6 +15,7 @@ use Rattle.std.proofs.shelf.Tests.{cases-eq, eq-eqb, ne-eqb}
 use Rattle.scenarios.specs.Cells.{total}
 use Rattle.scenarios.specs.Turns.{Turn, choose, free, ways, weight-from, weight}
 use Rattle.scenarios.specs.Fits.{Split, Fills, Fits}
+use Rattle.scenarios.proofs.Celling.{some-part}
 use Rattle.scenarios.proofs.Compositions.{length-filled}
 use Rattle.scenarios.proofs.Subsets.{choose-table}
 
@@ -29,7 +29,7 @@ choose-under (suc (suc (suc zero))) h = let t = choose-table .3 in (omega arith,
 choose-under (suc (suc (suc (suc zero)))) h = let t = choose-table .4 in (omega arith, omega arith)
 choose-under (suc (suc (suc (suc (suc k))))) h = absurd (omega arith)
 
-four-mono : (j k : ℕ) → j ≤ k → 4 ^ j ≤ 4 ^ k
+pub four-mono : (j k : ℕ) → j ≤ k → 4 ^ j ≤ 4 ^ k
 four-mono j k h =
     let e = pow-add 4 j (k - j) in
     let s : j + (k - j) ≡ k = omega arith in
@@ -75,16 +75,19 @@ weight-some-from l i (c ∷ cs) [] h = absurd h
 weight-some-from l i (c ∷ cs) (ps ∷ f) h =
     mul-le 1 1 (ways (eqb i l) ps) (weight-from l (i + 1) f) (ways-some (eqb i l) c ps (h .0)) (weight-some-from l (i + 1) cs f (h .1))
 
-head-under : (b : Bool) (c : ℕ) (ps : List ℕ) → 0 < c → Split b c ps → ways b ps ≤ 4 ^ c
-head-under true c ps p s = let h = ways-led c ps p s in omega arith
-head-under false c ps p s = ways-free c ps s
+ways-under : (b : Bool) (c : ℕ) (ps : List ℕ) → Split b c ps → ways b ps ≤ 4 ^ c
+ways-under true c ps s =
+    let some : 0 < c = omega (arith, some-part c ps s, length-filled ps (s .filled), s .whole) in
+    let h = ways-led c ps some s in
+    omega arith
+ways-under false c ps s = ways-free c ps s
 
-weight-under : (l i : ℕ) (cs : List ℕ) (f : List (List ℕ)) → All (λ c. 0 < c) cs → Fills l i cs f → weight-from l i f ≤ 4 ^ total cs
-weight-under l i [] [] p h = omega arith
-weight-under l i [] (ps ∷ f) p h = absurd h
-weight-under l i (c ∷ cs) [] p h = absurd h
-weight-under l i (c ∷ cs) (ps ∷ f) p h =
-    let m = mul-le (ways (eqb i l) ps) (weight-from l (i + 1) f) (4 ^ c) (4 ^ total cs) (head-under (eqb i l) c ps (p .0) (h .0)) (weight-under l (i + 1) cs f (p .1) (h .1)) in
+pub weight-under : (l i : ℕ) (cs : List ℕ) (f : List (List ℕ)) → Fills l i cs f → weight-from l i f ≤ 4 ^ total cs
+weight-under l i [] [] h = omega arith
+weight-under l i [] (ps ∷ f) h = absurd h
+weight-under l i (c ∷ cs) [] h = absurd h
+weight-under l i (c ∷ cs) (ps ∷ f) h =
+    let m = mul-le (ways (eqb i l) ps) (weight-from l (i + 1) f) (4 ^ c) (4 ^ total cs) (ways-under (eqb i l) c ps (h .0)) (weight-under l (i + 1) cs f (h .1)) in
     let e = pow-add 4 c (total cs) in
     omega arith
 
@@ -94,7 +97,7 @@ weight-led l i (c ∷ cs) [] p h a b = absurd h
 weight-led l i (c ∷ cs) (ps ∷ f) p h a b = go (cases-eq i l) (weight-led l (i + 1) cs f (p .1) (h .1))
   where
     rest : weight-from l (i + 1) f ≤ 4 ^ total cs
-    rest = weight-under l (i + 1) cs f (p .1) (h .1)
+    rest = weight-under l (i + 1) cs f (h .1)
 
     all : 4 ^ (c + total cs) ≡ 4 ^ c * 4 ^ total cs
     all = pow-add 4 c (total cs)

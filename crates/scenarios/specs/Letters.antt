@@ -2,7 +2,7 @@
 -- The roles in their order: outside 0, both 1, secondary 2, primary 3.
 -- A leader is heard by some half, so its letter is 5, 6 or 7.
 use mathlib.Core.Bool.{Bool, true, false, cond, _||_}
-use mathlib.Core.List.{List, [], _∷_, map}
+use mathlib.Core.List.{List, map}
 use Prim.Native.Nat.{ℕ, _+_, _*_, _%_, _^_, _<_}
 use lib.Dec.{eqb, ltb}
 use Rattle.std.specs.Iters.{counting}

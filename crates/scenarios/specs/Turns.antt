@@ -1,5 +1,4 @@
 -- One round from given cells: how each cell is split, how many rounds split them so, and each of these rounds by its number.
-use mathlib.Core.Path.{_≡_}
 use mathlib.Core.Bool.{Bool, cond}
 use mathlib.Core.List.{List, [], _∷_, _++_, map}
 use Prim.Native.Nat.{ℕ, zero, suc, min, _+_, _-_, _*_, _/_, _%_}

@@ -1,6 +1,6 @@
 -- Worked numbers, as theorems about the definitions.
 use mathlib.Core.Path.{_≡_}
-use mathlib.Core.List.{List, [], _∷_}
+use mathlib.Core.List.{[], _∷_}
 use Prim.Native.Nat.{ℕ, _^_, _≤_}
 use Rattle.std.specs.declared.option.Option.the-variants.{Some, None}
 use Rattle.scenarios.specs.declared.round.RoundScenario.{RoundScenario}

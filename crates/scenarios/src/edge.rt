@@ -81,7 +81,7 @@ fn first_splits(
 }
 
 // The mask with a bit at the last participant of each of the first `len` parts too, which begin at `start`.
-fn add_local_boundaries(mask: u64, start: usize, parts: [usize; 5], len: usize) -> u64
+pub(crate) fn add_local_boundaries(mask: u64, start: usize, parts: [usize; 5], len: usize) -> u64
     requires below { ⌜ mask < 2 ^ start ⌝ }
     requires filled { ⌜ All (λ p. 0 < p) (take len parts) ⌝ }
     requires within { ⌜ (start + cells.total (take len parts) ≤ 64) × (len ≤ 5) ⌝ }

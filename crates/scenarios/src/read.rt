@@ -1,22 +1,20 @@
 // Reading a round back: the parts and roles of its cells, and from these its turn and its number in it.
 ghost use mathlib.Core.Path.{_≡_};
-ghost use mathlib.Core.Bool.{true, cond};
+ghost use mathlib.Core.Bool.{true};
 ghost use Prim.Native.Nat.{ℕ, _+_, _-_, _*_, _^_, _<_, _≤_};
 ghost use lib.Dec.{ltb};
 ghost use lib.ListN.{length};
 ghost use Rattle.std.specs.shelf.Lists.{All};
-ghost use Rattle.scenarios.specs.Cells.{total, ends};
+ghost use Rattle.scenarios.specs.Cells.{total};
 ghost use Rattle.scenarios.specs.Letters.{role};
-ghost use Rattle.scenarios.specs.Turns.{choose};
 ghost use Rattle.scenarios.specs.Edges.{sizes-in};
 ghost use Rattle.scenarios.specs.Refinements.{sizes};
 ghost use Rattle.scenarios.specs.Readings.{spelled, Reads, Member-read, Parts-read, Ranks-choice, Placed, Cell-read};
 ghost use Rattle.scenarios.specs.Readings.{tallied, Fits-tally, Led-ranges, Cells-read, ends-at, Leads-range, Legal-told, Round-read};
 use crate::cell::CellState;
+use crate::edge::add_local_boundaries;
 use crate::mask::mask_contains;
-use crate::mask::set_mask_range;
 use crate::refinement::LocalRefinement;
-use crate::role::role_subset_count;
 use crate::round::RoundScenario;
 
 // The parts of a cell that have a role, the first `len` of them, and the mask of their roles.
@@ -149,33 +147,6 @@ fn read_cell(
     ))
 }
 
-// How many ways there are to give this many parts their letters; the last part of a led cell is the leader.
-fn letter_ways(led: bool, count: usize) -> u64
-    requires { ⌜ (led ≡ true → 0 < count) ⌝ }
-    ensures { λ r. ⌜ r ≡ choose (count - cond led 1 0) * cond led 3 1 ⌝ }
-{
-    if led {
-        role_subset_count(count - 1) * 3
-    } else {
-        role_subset_count(count)
-    }
-}
-
-// The mask with a bit at the last member of each part, where the first part begins at `start`.
-fn part_ends(refinement: LocalRefinement, start: usize) -> u64
-    requires filled { ⌜ All (λ p. 0 < p) (sizes refinement) ⌝ }
-    requires within { ⌜ (refinement .len ≤ 5) × (start + total (sizes refinement) ≤ 64) ⌝ }
-    ensures { λ r. ⌜ r ≡ 2 ^ start * ends (sizes refinement) ⌝ }
-{
-    let mut mask: u64 = 0;
-    let mut at = start;
-    for i in 0..refinement.len {
-        at += refinement.parts[i];
-        mask = set_mask_range(mask, at - 1, 1);
-    }
-    mask
-}
-
 // The tally with one cell more in front of the others, so its number is the lowest digit.
 fn add_cell(tally: Tally, start: usize, refinement: LocalRefinement, digit: u64, led: bool) -> Tally
     requires filled { ⌜ All (λ p. 0 < p) (sizes refinement) ⌝ }
@@ -185,8 +156,8 @@ fn add_cell(tally: Tally, start: usize, refinement: LocalRefinement, digit: u64,
     ensures { λ r. ⌜ r ≡ tallied tally start led refinement digit ⌝ }
 {
     Tally {
-        rank: tally.rank * u128::from(letter_ways(led, refinement.len)) + u128::from(digit),
-        marks: tally.marks + part_ends(refinement, start),
+        rank: tally.rank * u128::from(refinement.multiplicity(led)) + u128::from(digit),
+        marks: tally.marks + add_local_boundaries(0, start, refinement.parts, refinement.len),
     }
 }
 

@@ -1,13 +1,13 @@
 // How one cell is split in a round: its parts, with the leader alone at the end if it is in the cell.
 ghost use mathlib.Core.Path.{_≡_};
-ghost use mathlib.Core.Bool.{true, cond};
+ghost use mathlib.Core.Bool.{true};
 ghost use Prim.Native.Nat.{_-_, _<_, _≤_};
-ghost use lib.ListN.{length, getD, take};
+ghost use lib.ListN.{take};
 ghost use Rattle.std.specs.declared.option.Option.the-variants.{Some, None};
 ghost use Rattle.std.specs.shelf.Lists.{All};
 ghost use Rattle.scenarios.specs.Cells.{total};
 ghost use Rattle.scenarios.specs.Fits.{Split};
-ghost use Rattle.scenarios.specs.Steps.{first-split, next-composition, next-split};
+ghost use Rattle.scenarios.specs.Steps.{first-split};
 ghost use Rattle.scenarios.specs.Turns.{ways};
 ghost use Rattle.scenarios.specs.Refinements.{sizes, Last-above, Composed, Refined};
 use crate::role::role_subset_count;

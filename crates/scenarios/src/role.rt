@@ -1,9 +1,7 @@
 // The roles of participants in a round, and the choices of roles for the parts of a cell.
 ghost use mathlib.Core.Path.{_≡_};
-ghost use mathlib.Core.List.{map};
-ghost use mathlib.Core.Bool.{cond};
 ghost use Prim.Native.Nat.{_+_, _<_};
-ghost use lib.ListN.{length, set, take};
+ghost use lib.ListN.{length, take};
 ghost use Rattle.std.specs.Finite.{nth};
 ghost use Rattle.scenarios.specs.Turns.{choices, choose, roles-in, subset};
 ghost use Rattle.scenarios.specs.Roles.{number, letters};

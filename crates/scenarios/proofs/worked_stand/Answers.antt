@@ -1,5 +1,4 @@
 use mathlib.Core.Path.{refl}
-use native.Mathlib.Omega.{arith}
 use lib.Dec.{lit≤}
 use Rattle.scenarios.specs.Masks.{bit}
 use Rattle.scenarios.specs.Letters.{round-of}

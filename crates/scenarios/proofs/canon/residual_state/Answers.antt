@@ -1,6 +1,4 @@
-use mathlib.Core.Path.{_≡_, sym, subst}
-use native.Mathlib.Omega.{arith}
-use lib.ListN.{getD}
+use mathlib.Core.Path.{sym, subst}
 use Rattle.scenarios.specs.Canonical.{Canonical-told}
 use Rattle.scenarios.proofs.Canoning.{Read, read-start, read-more, read-none, read-all}
 use Rattle.scenarios.proofs.Layers.{root-state}

@@ -1,5 +1,4 @@
 use mathlib.Core.Path.{refl}
-use Rattle.scenarios.proofs.Planning.{plan-sound}
 use Rattle.scenarios.proofs.Querying.{count-told}
 use Rattle.scenarios.proofs.count.count_plan.Needs as need
 

@@ -1,15 +1,13 @@
 use mathlib.Core.Path.{_≡_, refl, sym, ap, _∙_}
-use mathlib.Core.Bool.{Bool, true, false, cond, _||_}
-use mathlib.Core.List.{List, map, _∷_, []}
-use Prim.Native.Nat.{ℕ, _+_, _<_, _≤_}
+use mathlib.Core.Bool.{_||_}
+use mathlib.Core.List.{map, _∷_}
+use Prim.Native.Nat.{ℕ, _≤_}
 use native.Mathlib.Omega.{arith}
 use lib.Dec.{eqb, ltb}
 use lib.ListN.{drop}
 use Rattle.std.specs.Finite.{nth}
-use Rattle.std.specs.declared.option.Option.{Option}
-use Rattle.std.specs.declared.option.Option.the-variants.{Some, None}
+use Rattle.std.specs.declared.option.Option.the-variants.{Some}
 use Rattle.std.proofs.shelf.Tests.{or-from, ne-eqb, le-ltb, cond-false}
-use Rattle.scenarios.specs.declared.edge.TransitionEdge.{TransitionEdge}
 use Rattle.scenarios.specs.Cells.{cells}
 use Rattle.scenarios.specs.Turns.{turns}
 use Rattle.scenarios.specs.Edges.{edge-of, edge-in, left-of, turn-at}

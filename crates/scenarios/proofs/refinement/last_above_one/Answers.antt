@@ -1,8 +1,8 @@
 use mathlib.Core.Path.{_≡_}
-use Prim.Native.Nat.{ℕ, _-_, _<_, _≤_}
+use Prim.Native.Nat.{ℕ, _-_, _<_}
 use native.Mathlib.Omega.{arith}
 use borrow.Author.Needs.{needs}
-use lib.ListN.{length, getD, take}
+use lib.ListN.{length}
 use Rattle.std.proofs.shelf.Lists.{length-take-le, length-take, getD-take}
 use Rattle.scenarios.proofs.refinement.last_above_one.Needs as need
 

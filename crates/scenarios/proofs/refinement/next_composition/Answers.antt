@@ -1,8 +1,8 @@
 use mathlib.Core.Path.{_≡_, sym, subst}
-use Prim.Native.Nat.{ℕ, _+_, _-_, _<_, _≤_}
+use Prim.Native.Nat.{_-_, _<_}
 use native.Mathlib.Omega.{arith}
 use borrow.Author.Needs.{needs}
-use lib.ListN.{length, getD, take}
+use lib.ListN.{length, take}
 use Rattle.std.proofs.shelf.Lists.{length-take, getD-take}
 use Rattle.scenarios.specs.Refinements.{Composed}
 use Rattle.scenarios.proofs.Moving.{part-most, moved, opened, closed, ended}

@@ -1,4 +1,4 @@
-use mathlib.Core.Path.{_≡_, sym, ap, _∙_}
+use mathlib.Core.Path.{sym, ap, _∙_}
 use lib.ListN.{take}
 use Rattle.scenarios.specs.Roles.{letters}
 use Rattle.scenarios.proofs.Subsets.{choice-is, choice-there}

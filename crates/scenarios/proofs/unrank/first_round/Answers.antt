@@ -1,14 +1,13 @@
 use mathlib.Core.Path.{_≡_, refl, sym, ap, subst, _∙_}
 use mathlib.Core.Logic.{⊎-elim}
-use Prim.Native.Nat.{ℕ, suc, _+_, _-_, _*_, _/_, _<_, _≤_}
+use Prim.Native.Nat.{suc, _+_, _-_, _/_, _<_, _≤_}
 use native.Mathlib.Omega.{arith}
 use lib.ListN.{length}
 use Rattle.std.proofs.shelf.Bits.{div-below}
 use Rattle.scenarios.specs.Cells.{cells}
 use Rattle.scenarios.specs.Turns.{turns, weight, round}
 use Rattle.scenarios.specs.Scenarios.{count}
-use Rattle.scenarios.specs.Edges.{cells-at, turn-at, left-of}
-use Rattle.scenarios.specs.Unranking.{Step-told}
+use Rattle.scenarios.specs.Edges.{turn-at, left-of}
 use Rattle.scenarios.proofs.Onward.{left-begun, left-moved}
 use Rattle.scenarios.proofs.Locating.{Seeking, seek-start}
 use Rattle.scenarios.proofs.Stepping.{step-from, edge-among, at-edge, some-factor}

@@ -1,8 +1,6 @@
-use mathlib.Core.Path.{_≡_, sym, subst}
 use native.Mathlib.Omega.{arith}
 use Prim.Native.Nat.{_<_}
 use lib.ListN.{length}
-use Rattle.scenarios.specs.Unranking.{Rounds-told}
 use Rattle.scenarios.proofs.Stepping.{unranked-start, unranked-more, unranked-all}
 use Rattle.scenarios.proofs.unrank.unrank_in.Needs as need
 

@@ -1,7 +1,7 @@
 use mathlib.Core.Path.{_≡_, refl, sym, ap, _∙_}
 use mathlib.Core.Bool.{Bool, true, false, cond}
 use mathlib.Core.List.{List, map}
-use Prim.Native.Nat.{ℕ, _+_, _-_, _<_, _≤_}
+use Prim.Native.Nat.{ℕ, _+_, _-_, _≤_}
 use native.Mathlib.Omega.{arith}
 use lib.ListN.{length, getD}
 use Rattle.std.specs.Iters.{counting}
@@ -9,7 +9,7 @@ use Rattle.std.proofs.shelf.Counted.{getD-map-counting, length-map-counting}
 use Rattle.scenarios.specs.Masks.{bit}
 use Rattle.scenarios.specs.Cells.{cells}
 use Rattle.scenarios.proofs.Placing.{length-put}
-use Rattle.scenarios.proofs.Ranging.{Listed, ranged-more, ranged-all}
+use Rattle.scenarios.proofs.Ranging.{ranged-more, ranged-all}
 use Rattle.scenarios.proofs.cell.CellState.ranges.Needs as need
 use Rattle.scenarios.proofs.cell.CellState.ranges.Needs.{then-ends, else-ends}
 

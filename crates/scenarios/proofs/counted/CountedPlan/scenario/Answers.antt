@@ -1,8 +1,7 @@
 use mathlib.Core.Path.{_≡_, refl, sym, subst, _∙_}
 use Prim.Native.Nat.{ℕ, _<_, _≤_}
 use native.Mathlib.Omega.{arith}
-use Rattle.scenarios.specs.Plans.{total-of}
-use Rattle.scenarios.proofs.Querying.{fault-short, fault-past, fault-none, ruled, corresponds}
+use Rattle.scenarios.proofs.Querying.{fault-short, fault-past, fault-none, corresponds}
 use Rattle.scenarios.proofs.counted.CountedPlan.scenario.Needs as need
 
 pub returns-in-Some : need.returns-in-Some

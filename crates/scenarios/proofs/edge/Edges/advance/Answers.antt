@@ -1,8 +1,5 @@
-use mathlib.Core.Path.{_≡_, _∙_}
-use Prim.Native.Nat.{_<_, _≤_}
+use mathlib.Core.Path.{_∙_}
 use native.Mathlib.Omega.{arith}
-use lib.ListN.{length}
-use Rattle.scenarios.specs.Edges.{cells-at}
 use Rattle.scenarios.proofs.Filling.{sizes-long}
 use Rattle.scenarios.proofs.Walkings.{walk-small, walk-stays, walk-on, walk-over}
 use Rattle.scenarios.proofs.edge.Edges.advance.Needs as need

@@ -1,12 +1,10 @@
-use mathlib.Core.Path.{_≡_, sym, ap, subst, _∙_}
-use Prim.Native.Nat.{ℕ, _+_, _*_, _^_, _<_, _≤_}
+use mathlib.Core.Path.{sym, ap, subst, _∙_}
+use Prim.Native.Nat.{ℕ, _+_, _*_, _^_, _<_}
 use native.Mathlib.Omega.{arith}
 use lib.Dec.{eqb}
-use lib.ListN.{getD, take}
-use Rattle.scenarios.specs.Cells.{total, ends}
+use Rattle.scenarios.specs.Cells.{ends}
 use Rattle.scenarios.specs.Refinements.{sizes}
-use Rattle.scenarios.specs.Edges.{cells-at}
-use Rattle.scenarios.proofs.Drawing.{range-at, range-within, split-of, split-at, short-at, some-refined, ways-at}
+use Rattle.scenarios.proofs.Drawing.{range-at, range-within, split-of, split-at, short-at, some-refined}
 use Rattle.scenarios.proofs.Edging.{Summed, summed-none, summed-below, summed-more, summed-fits, summed-weight, summed-next}
 use Rattle.scenarios.proofs.Walkings.{walk-some}
 use Rattle.scenarios.proofs.edge.Edges.edge.Needs as need
