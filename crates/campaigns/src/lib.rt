@@ -1,4 +1,7 @@
 // Campaigns: the cases of a counted plan, drawn up from words.
+
+#![tactic(auto)]
+
 mod deals;
 mod listing;
 mod opening;

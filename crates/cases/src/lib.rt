@@ -1,4 +1,7 @@
 // Cases: no two of a plan's canonical cases are renamings of each other, and every legal case is a renaming of one. No code.
+
+#![tactic(auto)]
+
 ghost use Rattle.cases.specs.Claims.{EachCaseOnce};
 
 // Each legal case of a plan is a renaming of the case of exactly one rank and set number.

@@ -1,6 +1,8 @@
 // Runs word sources, sampling, shuffling and compromised sets on examples; apart from them, so that their crates are proved
 // once.
 
+#![tactic(auto)]
+
 #[cfg(test)]
 mod tests {
     use refusals::Refusal;

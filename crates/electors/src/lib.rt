@@ -1,4 +1,7 @@
 // Electors: who leads each view, by turns, by lot or by a script, and that what an elector means decides what is seen of it.
+
+#![tactic(auto)]
+
 ghost use Rattle.std.specs.Prelude.{◌≡◌};
 ghost use Rattle.electors.specs.Scripts.{SameMeaning};
 ghost use Rattle.electors.specs.States.{Answered, Alike};

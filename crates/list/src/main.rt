@@ -2,6 +2,9 @@
 //
 // The first 64 bytes of standard input are the text of the plan line; what follows them is not looked at. The header is
 // printed once the plan is counted, so a refused plan prints its refusal and nothing else.
+
+#![tactic(auto)]
+
 ghost use Rattle.std.specs.Prelude.{◌≡◌, ◌≤◌, length, replicate, IfOk, Ok, Err};
 ghost use Rattle.list.specs.Asked.{Planned, Unplanned};
 

@@ -1,4 +1,7 @@
 // Orders, permutations, and the one sorted rearrangement of a list. No code: definitions and theorems for the crates above.
+
+#![tactic(auto)]
+
 ghost use Rattle.orders.specs.Orders.{Lex};
 ghost use Rattle.orders.specs.Claims.{Sorts, LexOrders};
 

@@ -1,5 +1,7 @@
 // Why a call is refused: one cause for each rule that a caller can break.
 
+#![tactic(auto)]
+
 ghost use Rattle.std.specs.Prelude.{◌≡◌};
 ghost use Rattle.refusals.specs.Refusals as refusals;
 

@@ -29,6 +29,9 @@
 // The number of each line that does not agree, or that is no such line, is printed, and at the end how many of each kind
 // agree. A question that is refused does not agree, unless its answer is `spent` or `panic`: all other stored ones have
 // answers.
+
+#![tactic(auto)]
+
 use std::io;
 use std::io::{BufRead, BufReader, BufWriter, Write};
 

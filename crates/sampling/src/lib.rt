@@ -1,4 +1,7 @@
 // Chance: a sample of ranks without repetition, and a shuffle, both drawn from a word source.
+
+#![tactic(auto)]
+
 mod sample;
 mod shuffle;
 

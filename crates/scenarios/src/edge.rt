@@ -45,7 +45,7 @@ fn next_splits(
     requires small { All (λ c. (0 < c) × (c ≤ 64)) (sizes_in cells ranges.now) }
     requires short { All (λ r. r.len ≤ 5) (take cells splits.old) }
     ensures stepped { Stepped result (next_fill leader 0 (sizes_in cells ranges.now) (fill_of cells splits.old)) (fill_of cells splits.new) }
-    ensures* short { λ r. ⌜ All (λ r. r.len ≤ 5) (take cells splits.new) ⌝ }
+    ensures short { All (λ r. r.len ≤ 5) (take cells splits.new) }
 {
     for i in (0..cells).rev() {
         let (_, size) = ranges[i];

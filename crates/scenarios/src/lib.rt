@@ -1,4 +1,7 @@
 // Twins scenarios: counted, and ranked to and fro.
+
+#![tactic(auto)]
+
 ghost use Rattle.scenarios.specs.Claims.{TurnsFit, TurnsApart, TurnsBegin, TurnsWalk, RoundsStand, RoundsFound, RoundsApart, RanksCorrespond, CellsResidual, RepeatsCanonical};
 
 mod canon;

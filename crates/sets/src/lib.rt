@@ -1,4 +1,7 @@
 // Compromised sets: how many take a first few members of each residual cell, and the set of a number.
+
+#![tactic(auto)]
+
 ghost use Rattle.std.specs.Prelude.{◌≡◌, ℕ, ◌+◌, ◌-◌, ◌^◌, ◌<◌, ◌≤◌, min, ◌++◌, length, take, drop, Some, None, Ok, Err, slice_index};
 ghost use Rattle.std.specs.List.{range_with_len, AllByRecursion as All};
 ghost use Rattle.refusals.specs.Refusals.{number_of};

@@ -1,5 +1,8 @@
 // A table of keys and values in slots handed in, entries in the order of arrival.
 // The first `len` slots are in use; nothing else is looked at.
+
+#![tactic(auto)]
+
 ghost use Rattle.std.specs.Prelude.{◌≡◌, ℕ, min, List, [], ◌∷◌, length, Decides};
 ghost use Rattle.table.specs.Places.{Place, AddedAs};
 
@@ -28,7 +31,7 @@ pub enum Adding {
 
 // The first place in use whose key is the same as `key`.
 pub fn find<K: Key, V>(slots: &[Entry<K, V>], len: usize, key: &K) -> Option<usize>
-    ensures { Place (λ e. meaning e.key ≡ meaning key.now) slots.now (min len (length slots.now)) result }
+    ensures { Place (λ e. K.meaning e.key ≡ K.meaning key.now) slots.now (min len (length slots.now)) result }
 {
     let n = len.min(slots.len());
     for i in 0..n {
@@ -41,7 +44,7 @@ pub fn find<K: Key, V>(slots: &[Entry<K, V>], len: usize, key: &K) -> Option<usi
 
 // Writes an entry behind those in use, unless its key is among them or no slot is left; no other slot changes.
 pub fn add<K: Key, V: Copy>(slots: &mut [Entry<K, V>], len: usize, key: K, value: V) -> Adding
-    ensures { AddedAs (λ e. meaning e.key ≡ meaning key) (record { key = key; value = value }) slots.old (min len (length slots.old)) result slots.new }
+    ensures { AddedAs (λ e. K.meaning e.key ≡ K.meaning key) (record { key = key; value = value }) slots.old (min len (length slots.old)) result slots.new }
 {
     if let Some(_) = find(slots, len, &key) {
         return Adding::There;

@@ -1,4 +1,7 @@
 // Leader terms: which term a view is in, which round of a script it plays, and where its term begins.
+
+#![tactic(auto)]
+
 ghost use Rattle.std.specs.Prelude.{◌≡◌, ◌<◌, Ok, Err};
 ghost use Rattle.refusals.specs.Refusals.{number_of};
 ghost use Rattle.terms.specs.Terms as terms;

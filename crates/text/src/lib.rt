@@ -4,6 +4,8 @@
 // ends the fifth and the text. Numbers are decimal, with no needless zero in front, of at most 32 bits; the mode is `s` for
 // sampled or `u` for sustained.
 
+#![tactic(auto)]
+
 ghost use Rattle.std.specs.Prelude.{◌≡◌, ◌<◌, ◌≤◌, length, IfSome, Ok, Err};
 ghost use Rattle.text.specs.Lines as lines;
 

@@ -1,5 +1,7 @@
 // Runs the reader of plan lines on examples; apart from it, so that its crate is proved once.
 
+#![tactic(auto)]
+
 #[cfg(test)]
 mod tests {
     use refusals::Refusal;

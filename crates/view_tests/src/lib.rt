@@ -1,5 +1,7 @@
 // Runs terms, groups, routes and electors on examples; apart from them, so that their crates are proved once.
 
+#![tactic(auto)]
+
 #[cfg(test)]
 mod tests {
     use electors::{Dynamic, Elector, ElectorState, Lot, Rotation, Scheduled};

@@ -1,4 +1,7 @@
 // What each half hears at a view, and where a message goes.
+
+#![tactic(auto)]
+
 mod find;
 mod groups;
 mod name;

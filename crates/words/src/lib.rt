@@ -1,4 +1,7 @@
 // Words to draw with: sources of 64-bit words, and draws of numbers up to a bound.
+
+#![tactic(auto)]
+
 ghost use Rattle.std.specs.Prelude.{◌≡◌, ℕ, List, Ok, Err};
 ghost use Rattle.words.specs.Words.{Words, Taken};
 ghost use Rattle.words.specs.Draws.{draws, Drawn, WordsUsed};

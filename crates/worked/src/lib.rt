@@ -1,4 +1,7 @@
 // Worked numbers, proved of the definitions that the contracts of the other crates cite.
+
+#![tactic(auto)]
+
 ghost use Rattle.worked.specs.Worked.{WorkedTotals, WorkedRanks, WorkedDraws, WorkedSets, WorkedTerms, WorkedGroups};
 
 // Totals, ranks, draws, compromised sets, terms, groups and a route at given values.

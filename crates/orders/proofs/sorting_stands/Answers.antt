@@ -4,4 +4,4 @@ use Rattle.orders.proofs.Lexical.{lex_order}
 use Rattle.orders.proofs.sorting_stands.Goals as goal
 
 pub returns : goal.returns
-returns c = (lex_order, sorts Lex lex_order)
+returns c = record { lex_orders = lex_order; sorts = sorts Lex lex_order }
