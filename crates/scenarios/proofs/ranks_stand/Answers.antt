@@ -5,4 +5,8 @@ use Rattle.scenarios.proofs.Ranks.{ranks_correspond, cells_residual}
 use Rattle.scenarios.proofs.ranks_stand.Goals as goal
 
 pub returns : goal.returns
-returns c = (ranks_correspond turns_fit turns_apart rounds_stand rounds_found rounds_apart, cells_residual turns_fit rounds_stand, repeats_canonical)
+returns c = record {
+  ranks_correspond = ranks_correspond turns_fit turns_apart rounds_stand rounds_found rounds_apart;
+  cells_residual = cells_residual turns_fit rounds_stand;
+  repeats_canonical = repeats_canonical;
+}

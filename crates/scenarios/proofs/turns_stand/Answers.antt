@@ -3,4 +3,4 @@ use Rattle.scenarios.proofs.Walks.{turns_fit, turns_apart, turns_begin, turns_wa
 
 -- src/lib.rt:21:1
 pub returns : goal.returns
-returns c = (turns_fit, turns_apart, turns_begin, turns_walk)
+returns c = record { turns_fit = turns_fit; turns_apart = turns_apart; turns_begin = turns_begin; turns_walk = turns_walk }

@@ -11,15 +11,15 @@ loop-round-init c =
 
 pub loop-round-preserved : goal.loop-round-preserved
 loop-round-preserved c =
-    let x = c.in-ok-state.ensures in
+    let x = c.in_ok-state.ensures in
     read_more c.args.n c.requires.0 c.args.rounds.now c.loop-round.round-index c.loop-round.state.boundaries c.loop-round.invariant (record { leader = 0; primary = 0; secondary = 0 }) c.loop-round-test.true
-    x.0 c.in-ok-state.field-0.rank c.in-ok-state.field-0.next.boundaries x.1 x.4 x.5 x.3
+    x.0 c.in_ok-state.field-0.rank c.in_ok-state.field-0.next.boundaries x.1 x.4 x.5 x.3
 
-pub returns-in-err-state : goal.returns-in-err-state
-returns-in-err-state c =
-    subst (CanonicalTold c.args.n c.args.rounds.now) (sym c.from-residual.ensures)
+pub returns-in_err-state : goal.returns-in_err-state
+returns-in_err-state c =
+    subst (CanonicalTold c.args.n c.args.rounds.now) (sym c.from_residual.ensures)
     (read_none c.args.n c.requires.0 c.args.rounds.now c.loop-round.round-index c.loop-round.state.boundaries c.loop-round.invariant (record { leader = 0; primary = 0; secondary = 0 }) c.loop-round-test.true
-    c.in-err-state.ensures)
+    c.in_err-state.ensures)
 
 pub returns : goal.returns
 returns c = read_all c.args.n c.loop-round.round-index c.loop-round.state.boundaries c.args.rounds.now c.loop-round-test.false c.loop-round.invariant

@@ -5,12 +5,12 @@ use Rattle.scenarios.proofs.Slots.{settled_all, settled_total}
 use Rattle.scenarios.proofs.Settling.{entries_long}
 use Rattle.scenarios.proofs.counting.count_in.Goals as goal
 
-pub returns-in-default : goal.returns-in-default
-returns-in-default c =
+pub returns-in_default : goal.returns-in_default
+returns-in_default c =
     let n = c.args.n in
     let R = c.args.rounds in
     let e = entries_long n R in
-    let b : length c.args.slots.now < length (places n R) = c.in-default.ensures in
+    let b : length c.args.slots.now < length (places n R) = c.in_default.ensures in
     (inl (refl, (omega arith)), c.clear.ensures ∙ ap (λ k. replicate k zero_slot) c.discover.auto.slots)
 
 pub returns-then-not-settle : goal.returns-then-not-settle
@@ -32,4 +32,4 @@ returns c =
     let xs = c.args.slots.now in
     let s : Settled n R (places n R) c.in-Some.len 0 xs c.settle.new.slots = c.if-not-settle.ensures xs c.in-Some.ensures in
     let a = settled_all n R c.in-Some.len xs c.settle.new.slots s in
-    (a.0, c.first-value.ensures ∙ settled_total n R c.in-Some.len xs c.settle.new.slots c.requires.0 s, c.first-value.type-inv, a.1)
+    (a.0, c.first_value.ensures ∙ settled_total n R c.in-Some.len xs c.settle.new.slots c.requires.0 s, c.first_value.type_inv, a.1)

@@ -5,8 +5,8 @@ use Rattle.scenarios.specs.Slots.{Holds, Kept, afters}
 use Rattle.scenarios.proofs.Discovery.{noted_upto, layer_turn, layer_all, layer_short}
 use Rattle.scenarios.proofs.counting.note_layer.Goals as goal
 
-pub returns-in-err-used : goal.returns-in-err-used
-returns-in-err-used c ps xs h =
+pub returns-in_err-used : goal.returns-in_err-used
+returns-in_err-used c ps xs h =
     let u = h.used in
     let n = c.args.n in
     let m = c.args.depth in
@@ -14,11 +14,11 @@ returns-in-err-used c ps xs h =
     let i = c.loop-i.i in
     let s = c.loop-i.invariant ps xs h in
     let t : length xs < length (noted_upto n m from (i + 1 - from) ps) =
-    layer_turn n m from i c.loop-i.used ps (get_or c.loop-i.slots i zero_slot).key xs c.loop-i.slots c.note-nexts.new.slots None (omega arith) (omega arith) s refl
-    (c.in-err-used.ensures (noted_upto n m from (i - from) ps) xs s) in
+    layer_turn n m from i c.loop-i.used ps (get_or c.loop-i.slots i zero_slot).key xs c.loop-i.slots c.note_nexts.new.slots None (omega arith) (omega arith) s refl
+    (c.in_err-used.ensures (noted_upto n m from (i - from) ps) xs s) in
     let l = layer_short n m from (i + 1 - from) ps in
     let short : length xs < length (noted same_place ps (flat_map (afters n m) (drop from ps))) = omega arith in
-    subst (λ r. Kept (noted same_place ps (flat_map (afters n m) (drop from ps))) xs r c.note-nexts.new.slots) (sym c.from-residual.ensures) short
+    subst (λ r. Kept (noted same_place ps (flat_map (afters n m) (drop from ps))) xs r c.note_nexts.new.slots) (sym c.from_residual.ensures) short
 
 pub loop-i-preserved : goal.loop-i-preserved
 loop-i-preserved c ps xs h =
@@ -28,8 +28,8 @@ loop-i-preserved c ps xs h =
     let from = c.args.from in
     let i = c.loop-i.i in
     let s = c.loop-i.invariant ps xs h in
-    layer_turn n m from i c.loop-i.used ps (get_or c.loop-i.slots i zero_slot).key xs c.loop-i.slots c.note-nexts.new.slots (Some c.in-ok-used.used) (omega arith) (omega arith) s refl
-    (c.in-ok-used.ensures (noted_upto n m from (i - from) ps) xs s)
+    layer_turn n m from i c.loop-i.used ps (get_or c.loop-i.slots i zero_slot).key xs c.loop-i.slots c.note_nexts.new.slots (Some c.in_ok-used.used) (omega arith) (omega arith) s refl
+    (c.in_ok-used.ensures (noted_upto n m from (i - from) ps) xs s)
 
 pub returns : goal.returns
 returns c ps xs h =

@@ -16,19 +16,19 @@ edge-requires c = c.loop-used.invariant.0
 pub advance-requires : goal.advance-requires
 advance-requires c = c.loop-used.invariant.0
 
-pub returns-in-err-used : goal.returns-in-err-used
-returns-in-err-used c ps xs h =
+pub returns-in_err-used : goal.returns-in_err-used
+returns-in_err-used c ps xs h =
     let n = c.args.n in
     let m = c.args.depth in
     let p = c.args.place in
     let i = c.loop-used.invariant.1 ps xs h in
     let ts = left_of c.of-edges.result in
     let s = note_short m (noted same_place ps (map (turned m) ts)) i.0 c.loop-used.edges c.loop-used.invariant.0 i.2 c.edge.result c.edge.ensures in
-    let b : length xs < length (note same_place i.0 (place m c.edge.result.next.boundaries)) = c.in-err-used.ensures i.0 xs i.1 in
+    let b : length xs < length (note same_place i.0 (place m c.edge.result.next.boundaries)) = c.in_err-used.ensures i.0 xs i.1 in
     let all = noted same_place ps (afters n m p) in
     let q = ap length (turned_all n m ps p ts (left_begun n (cells n p.state.boundaries) c.of-edges.result c.of-edges.ensures)) in
     let short : length xs < length all = omega arith in
-    subst (λ r. Kept all xs r c.note-place.new.slots) (sym c.from-residual.ensures) short
+    subst (λ r. Kept all xs r c.note_place.new.slots) (sym c.from_residual.ensures) short
 
 pub returns-then-not-advance : goal.returns-then-not-advance
 returns-then-not-advance c ps xs h =
@@ -39,7 +39,7 @@ returns-then-not-advance c ps xs h =
     let ts = left_of c.of-edges.result in
     let s = note_ended m (noted same_place ps (map (turned m) ts)) i.0 c.loop-used.edges c.loop-used.invariant.0 i.2 c.edge.result c.edge.ensures c.if-not-advance.ensures in
     let q = turned_all n m ps p ts (left_begun n (cells n p.state.boundaries) c.of-edges.result c.of-edges.ensures) in
-    subst (λ l. Holds l c.in-ok-used.used xs c.note-place.new.slots) (s ∙ q) (c.in-ok-used.ensures i.0 xs i.1)
+    subst (λ l. Holds l c.in_ok-used.used xs c.note_place.new.slots) (s ∙ q) (c.in_ok-used.ensures i.0 xs i.1)
 
 pub loop-used-smaller : goal.loop-used-smaller
 loop-used-smaller c =
@@ -54,5 +54,5 @@ loop-used-preserved c = (
       let i = c.loop-used.invariant.1 ps xs h in
       let all = noted same_place ps (map (turned m) (left_of c.of-edges.result)) in
       let s = note_moved m all i.0 c.loop-used.edges c.loop-used.invariant.0 i.2 c.edge.result c.edge.ensures c.advance.new.self c.if-not-advance.ensures in
-      (note same_place i.0 (place m c.edge.result.next.boundaries), c.in-ok-used.ensures i.0 xs i.1, s),
+      (note same_place i.0 (place m c.edge.result.next.boundaries), c.in_ok-used.ensures i.0 xs i.1, s),
 )

@@ -9,4 +9,4 @@ returns c n R e h a =
     let ys = c.args.slots.now in
     let l = ap length e in
     let t = length-take (length (entries n R)) ys in
-    entry_found n R (length ys) ys e (omega arith) c.args.depth c.args.state.boundaries c.value-of.result h a c.value-of.ensures
+    entry_found n R (length ys) ys e (omega arith) c.args.depth c.args.state.boundaries c.value_of.result h a c.value_of.ensures

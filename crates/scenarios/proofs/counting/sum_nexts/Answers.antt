@@ -23,22 +23,22 @@ loop-total-init c = (
       (shares_found n R c.args.len i xs c.args.slots.now p ts c.requires.0 s l q c.if-place-rounds.false b, (omega arith)),
 )
 
-pub returns-in-err-total : goal.returns-in-err-total
-returns-in-err-total c xs i s l q =
+pub returns-in_err-total : goal.returns-in_err-total
+returns-in_err-total c xs i s l q =
     let R = c.args.rounds in
     let p = c.args.place in
     let S = (entry c.args.n R p).value in
     let large : 2 ^ 64 ≤ S =
     sum_large (share R p) (p.depth + 1) c.args.len c.loop-total.total S c.args.slots.now c.loop-total.edges c.loop-total.invariant.0 (c.loop-total.invariant.1 xs i s l q)
-    c.edge-edge.result c.edge-edge.ensures c.value-of-value.result c.value-of-value.ensures (2 ^ 64) c.in-err-total.ensures in
-    subst (FitsAs S) (sym c.from-residual.ensures) large
+    c.edge-edge.result c.edge-edge.ensures c.value_of-value.result c.value_of-value.ensures (2 ^ 64) c.in_err-total.ensures in
+    subst (FitsAs S) (sym c.from_residual.ensures) large
 
 pub returns-then-not-advance : goal.returns-then-not-advance
 returns-then-not-advance c xs i s l q =
     let R = c.args.rounds in
     let p = c.args.place in
     sum_ended (share R p) (p.depth + 1) c.args.len c.loop-total.total (entry c.args.n R p).value c.args.slots.now c.loop-total.edges c.loop-total.invariant.0 (c.loop-total.invariant.1 xs i s l q)
-    c.edge-edge.result c.edge-edge.ensures c.value-of-value.result c.value-of-value.ensures c.in-ok-total.total c.in-ok-total.ensures c.if-not-advance.ensures
+    c.edge-edge.result c.edge-edge.ensures c.value_of-value.result c.value_of-value.ensures c.in_ok-total.total c.in_ok-total.ensures c.if-not-advance.ensures
 
 pub loop-total-smaller : goal.loop-total-smaller
 loop-total-smaller c =
@@ -52,5 +52,5 @@ loop-total-preserved c = (
       let R = c.args.rounds in
       let p = c.args.place in
       sum_moved (share R p) (p.depth + 1) c.args.len c.loop-total.total (entry c.args.n R p).value c.args.slots.now c.loop-total.edges c.loop-total.invariant.0 (c.loop-total.invariant.1 xs i s l q)
-      c.edge-edge.result c.edge-edge.ensures c.value-of-value.result c.value-of-value.ensures c.in-ok-total.total c.advance.new.self c.in-ok-total.ensures c.if-not-advance.ensures,
+      c.edge-edge.result c.edge-edge.ensures c.value_of-value.result c.value_of-value.ensures c.in_ok-total.total c.advance.new.self c.in_ok-total.ensures c.if-not-advance.ensures,
 )

@@ -19,15 +19,15 @@ returns-in-Outside c =
 
 pub returns-in-Both : goal.returns-in-Both
 returns-in-Both c =
-    grown_part c.args.round c.args.start c.args.len 1 _ _ c.set-mask-range.ensures c.set-mask-range-in-Both.ensures
+    grown_part c.args.round c.args.start c.args.len 1 _ _ c.set_mask_range.ensures c.set_mask_range-in-Both.ensures
     ∙ at c.args.round c.args.start c.args.len _ _ c.in-Both.is
 
 pub returns-in-Secondary : goal.returns-in-Secondary
 returns-in-Secondary c =
-    grown_part c.args.round c.args.start c.args.len 2 _ _ (plain c.args.round.primary) c.set-mask-range-in-Secondary.ensures
+    grown_part c.args.round c.args.start c.args.len 2 _ _ (plain c.args.round.primary) c.set_mask_range-in-Secondary.ensures
     ∙ at c.args.round c.args.start c.args.len _ _ c.in-Secondary.is
 
 pub returns-in-Primary : goal.returns-in-Primary
 returns-in-Primary c =
-    grown_part c.args.round c.args.start c.args.len 3 _ _ c.set-mask-range-in-Primary.ensures (plain c.args.round.secondary)
+    grown_part c.args.round c.args.start c.args.len 3 _ _ c.set_mask_range-in-Primary.ensures (plain c.args.round.secondary)
     ∙ at c.args.round c.args.start c.args.len _ _ c.in-Primary.is

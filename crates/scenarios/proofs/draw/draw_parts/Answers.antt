@@ -5,15 +5,15 @@ use Rattle.scenarios.proofs.draw.draw_parts.Goals as goal
 pub loop-j-init : goal.loop-j-init
 loop-j-init c = drawn_none c.args.round c.args.start c.args.parts c.args.roles c.requires.below
 
-pub apply-role-drawn-requires : goal.apply-role-drawn-requires
-apply-role-drawn-requires c =
+pub apply_role-drawn-requires : goal.apply_role-drawn-requires
+apply_role-drawn-requires c =
     let long : length c.args.parts ≡ 5 = search rules in
     let p = c.loop-j.invariant.place in
     let w = part_within c.args.parts c.loop-j.j c.args.count (omega arith) (omega arith) in
     record { below = c.loop-j.invariant.below; within = omega arith }
 
-pub overflow-add-at : goal.overflow-add-at
-overflow-add-at c =
+pub overflow_add-at : goal.overflow_add-at
+overflow_add-at c =
     let long : length c.args.parts ≡ 5 = search rules in
     let p = c.loop-j.invariant.place in
     let w = part_within c.args.parts c.loop-j.j c.args.count (omega arith) (omega arith) in
@@ -23,7 +23,7 @@ pub loop-j-preserved : goal.loop-j-preserved
 loop-j-preserved c =
     let long : length c.args.parts ≡ 5 = search rules in
     let wide : length c.args.roles ≡ 4 = search rules in
-    drawn_more c.args.round c.args.start c.args.parts c.args.roles c.loop-j.j c.loop-j.at c.loop-j.drawn c.apply-role-drawn.result (omega arith) (omega arith) c.loop-j.invariant c.apply-role-drawn.ensures
+    drawn_more c.args.round c.args.start c.args.parts c.args.roles c.loop-j.j c.loop-j.at c.loop-j.drawn c.apply_role-drawn.result (omega arith) (omega arith) c.loop-j.invariant c.apply_role-drawn.ensures
 
 pub returns : goal.returns
 returns c = drawn_all c.args.round c.args.start c.args.parts c.args.roles c.loop-j.j c.args.count c.loop-j.at c.loop-j.drawn (omega arith) c.loop-j.invariant

@@ -5,8 +5,8 @@ use Rattle.scenarios.specs.Refinements.{sizes}
 use Rattle.scenarios.proofs.Drawing.{leader_within, range_at, range_within, split_of, split_at, short_at, some_refined, ways_small, digit_of, coming_first, coming_more, coming_all}
 use Rattle.scenarios.proofs.draw.round_at.Goals as goal
 
-pub offset-bounds-edges-edges : goal.offset-bounds-edges-edges
-offset-bounds-edges-edges c = let h = leader_within c.args.edges.now c.requires.walking in let k = c.requires.walking.few in omega arith
+pub offset_bounds-edges-edges : goal.offset_bounds-edges-edges
+offset_bounds-edges-edges c = let h = leader_within c.args.edges.now c.requires.walking in let k = c.requires.walking.few in omega arith
 
 pub bounds-edges-edges : goal.bounds-edges-edges
 bounds-edges-edges c = let h = leader_within c.args.edges.now c.requires.walking in let k = c.requires.walking.few in omega arith
@@ -14,14 +14,14 @@ bounds-edges-edges c = let h = leader_within c.args.edges.now c.requires.walking
 pub bounds-edges-edges-2 : goal.bounds-edges-edges-2
 bounds-edges-edges-2 c = let h = leader_within c.args.edges.now c.requires.walking in let k = c.requires.walking.few in omega arith
 
-pub overflow-add-drawn : goal.overflow-add-drawn
-overflow-add-drawn c =
+pub overflow_add-drawn : goal.overflow_add-drawn
+overflow_add-drawn c =
     let e = c.args.edges.now in
     let h = range_within e c.requires.walking e.leader (leader_within e c.requires.walking) in
     omega arith
 
-pub overflow-sub-drawn : goal.overflow-sub-drawn
-overflow-sub-drawn c =
+pub overflow_sub-drawn : goal.overflow_sub-drawn
+overflow_sub-drawn c =
     let e = c.args.edges.now in
     (range_within e c.requires.walking e.leader (leader_within e c.requires.walking)).0
 
@@ -37,21 +37,21 @@ multiplicity-space-requires c =
       some = some_refined (eqb i e.leader) _ (split_of e i) (split_at e c.requires.walking i c.loop-i-test.true);
     }
 
-pub nonzero-rem-left : goal.nonzero-rem-left
-nonzero-rem-left c =
+pub nonzero_rem-left : goal.nonzero_rem-left
+nonzero_rem-left c =
     let q = c.multiplicity-space.ensures in
     let h = digit_of c.args.edges.now c.requires.walking c.loop-i.i c.loop-i-test.true c.args.rank c.loop-i.left c.loop-i.drawn c.loop-i.invariant c.multiplicity-space.result q in
     omega arith
 
-pub overflow-cast-left : goal.overflow-cast-left
-overflow-cast-left c =
+pub overflow_cast-left : goal.overflow_cast-left
+overflow_cast-left c =
     let q = c.multiplicity-space.ensures in
     let h = digit_of c.args.edges.now c.requires.walking c.loop-i.i c.loop-i-test.true c.args.rank c.loop-i.left c.loop-i.drawn c.loop-i.invariant c.multiplicity-space.result q in
     let s = ways_small c.args.edges.now c.loop-i.i in
     omega arith
 
-pub draw-cell-drawn-requires : goal.draw-cell-drawn-requires
-draw-cell-drawn-requires c =
+pub draw_cell-drawn-requires : goal.draw_cell-drawn-requires
+draw_cell-drawn-requires c =
     let e = c.args.edges.now in
     let w = c.requires.walking in
     let i = c.loop-i.i in
@@ -64,8 +64,8 @@ draw-cell-drawn-requires c =
       choice = digit_of e w i t c.args.rank c.loop-i.left c.loop-i.drawn c.loop-i.invariant c.multiplicity-space.result c.multiplicity-space.ensures;
     }
 
-pub nonzero-div-left : goal.nonzero-div-left
-nonzero-div-left c =
+pub nonzero_div-left : goal.nonzero_div-left
+nonzero_div-left c =
     let q = c.multiplicity-space.ensures in
     let h = digit_of c.args.edges.now c.requires.walking c.loop-i.i c.loop-i-test.true c.args.rank c.loop-i.left c.loop-i.drawn c.loop-i.invariant c.multiplicity-space.result q in
     omega arith
@@ -73,7 +73,7 @@ nonzero-div-left c =
 pub loop-i-preserved : goal.loop-i-preserved
 loop-i-preserved c =
     coming_more c.args.edges.now c.requires.walking c.loop-i.i c.loop-i-test.true c.args.rank c.loop-i.left c.loop-i.drawn c.loop-i.invariant
-    c.draw-cell-drawn.result c.multiplicity-space.result c.multiplicity-space.ensures c.draw-cell-drawn.ensures
+    c.draw_cell-drawn.result c.multiplicity-space.result c.multiplicity-space.ensures c.draw_cell-drawn.ensures
 
 pub returns : goal.returns
 returns c = coming_all c.args.edges.now c.requires.walking c.args.rank c.requires.below c.loop-i.i c.loop-i.left c.loop-i.drawn c.loop-i-test.false c.loop-i.invariant

@@ -18,14 +18,14 @@ loop-edges-init c =
           (subst (λ cs. Begun c.args.n cs c.of-edges.result) (sym b.at ∙ q) b),
     )
 
-pub returns-in-err-interval : goal.returns-in-err-interval
-returns-in-err-interval c most counted a t f =
+pub returns-in_err-interval : goal.returns-in_err-interval
+returns-in_err-interval c most counted a t f =
     let s = c.args.state.boundaries in
     let h =
     stand_here c.args.rounds c.args.depth c.requires.0 (c.loop-edges.invariant.1 s c.of-edges.ensures.at most counted a)
     c.edge-edge.ensures a c.requires.2 most (c.continuations-ways.ensures c.args.n counted (omega arith)) in
     let g = number_fits c.requires.0 h c.if-edge-read.true c.if-edge-read-2.true t f in
-    absurd (fits_told c.args.read.rank c.continuations-ways.result c.loop-edges.before g.0 g.1 c.in-err-interval.ensures)
+    absurd (fits_told c.args.read.rank c.continuations-ways.result c.loop-edges.before g.0 g.1 c.in_err-interval.ensures)
 
 pub returns-then-edge-read-2 : goal.returns-then-edge-read-2
 returns-then-edge-read-2 c most counted a t f =
@@ -33,25 +33,25 @@ returns-then-edge-read-2 c most counted a t f =
     let h =
     stand_here c.args.rounds c.args.depth c.requires.0 (c.loop-edges.invariant.1 s c.of-edges.ensures.at most counted a)
     c.edge-edge.ensures a c.requires.2 most (c.continuations-ways.ensures c.args.n counted (omega arith)) in
-    found_told c.requires.0 h c.if-edge-read.true c.if-edge-read-2.true t f c.in-ok-interval.field-0 c.in-ok-interval.ensures c.checked-add.result c.checked-add.ensures
+    found_told c.requires.0 h c.if-edge-read.true c.if-edge-read-2.true t f c.in_ok-interval.field-0 c.in_ok-interval.ensures c.checked_add.result c.checked_add.ensures
 
-pub returns-in-err-interval-2 : goal.returns-in-err-interval-2
-returns-in-err-interval-2 c most counted a t f =
+pub returns-in_err-interval-2 : goal.returns-in_err-interval-2
+returns-in_err-interval-2 c most counted a t f =
     let s = c.args.state.boundaries in
     let h =
     stand_here c.args.rounds c.args.depth c.requires.0 (c.loop-edges.invariant.1 s c.of-edges.ensures.at most counted a)
     c.edge-edge.ensures a c.requires.2 most (c.continuations-ways.ensures c.args.n counted (omega arith)) in
-    absurd (fits_told c.edge-edge.result.multiplicity c.continuations-ways.result c.loop-edges.before h.weight_fits h.sum_fits c.in-err-interval-2.ensures)
+    absurd (fits_told c.edge-edge.result.multiplicity c.continuations-ways.result c.loop-edges.before h.weight_fits h.sum_fits c.in_err-interval-2.ensures)
 
-pub returns-in-err-before : goal.returns-in-err-before
-returns-in-err-before c most counted a t f =
+pub returns-in_err-before : goal.returns-in_err-before
+returns-in_err-before c most counted a t f =
     let s = c.args.state.boundaries in
     let h =
     stand_here c.args.rounds c.args.depth c.requires.0 (c.loop-edges.invariant.1 s c.of-edges.ensures.at most counted a)
     c.edge-edge.ensures a c.requires.2 most (c.continuations-ways.ensures c.args.n counted (omega arith)) in
     let g = h.sum_fits in
-    let k = c.in-ok-interval-2.ensures in
-    absurd (c.in-err-before.ensures (omega arith))
+    let k = c.in_ok-interval-2.ensures in
+    absurd (c.in_err-before.ensures (omega arith))
 
 pub returns-then-not-advance : goal.returns-then-not-advance
 returns-then-not-advance c most counted a t f =
@@ -74,6 +74,6 @@ loop-edges-preserved c = (
       let h =
       stand_here c.args.rounds c.args.depth c.requires.0 (c.loop-edges.invariant.1 s q most counted a)
       c.edge-edge.ensures a c.requires.2 most (c.continuations-ways.ensures c.args.n counted (omega arith)) in
-      subst (Passing r c.args.n s c.args.read c.advance.new.self) (sym (c.in-ok-before.ensures.1 ∙ ap (λ k. c.loop-edges.before + k) c.in-ok-interval-2.ensures))
+      subst (Passing r c.args.n s c.args.read c.advance.new.self) (sym (c.in_ok-before.ensures.1 ∙ ap (λ k. c.loop-edges.before + k) c.in_ok-interval-2.ensures))
       (pass_on c.requires.0 h (not_both c.else-edge-read.either) c.advance.new.self c.if-not-advance.ensures),
 )

@@ -4,21 +4,21 @@ use Rattle.scenarios.proofs.read.read_cell.Goals as goal
 
 pub returns-then-not-led : goal.returns-then-not-led
 returns-then-not-led c =
-    let long : length c.in-ok-parts.field-0.parts ≡ 5 = search rules in
-    cell_follows_at c.args.led c.args.round.now c.args.start c.args.size c.in-ok-parts.field-0 c.choice-rank.result c.if-not-led.true c.requires.placed long c.in-ok-parts.ensures c.choice-rank.ensures
+    let long : length c.in_ok-parts.field-0.parts ≡ 5 = search rules in
+    cell_follows_at c.args.led c.args.round.now c.args.start c.args.size c.in_ok-parts.field-0 c.choice_rank.result c.if-not-led.true c.requires.placed long c.in_ok-parts.ensures c.choice_rank.ensures
 
-pub overflow-mul-result : goal.overflow-mul-result
-overflow-mul-result c =
-    let small = rank_small _ c.choice-rank-2.result c.choice-rank-2.ensures in
+pub overflow_mul-result : goal.overflow_mul-result
+overflow_mul-result c =
+    let small = rank_small _ c.choice_rank-2.result c.choice_rank-2.ensures in
     search rules
 
-pub overflow-add-result-2 : goal.overflow-add-result-2
-overflow-add-result-2 c =
-    let small = rank_small _ c.choice-rank-2.result c.choice-rank-2.ensures in
+pub overflow_add-result-2 : goal.overflow_add-result-2
+overflow_add-result-2 c =
+    let small = rank_small _ c.choice_rank-2.result c.choice_rank-2.ensures in
     let placement = c.from.ensures in
     search rules
 
 pub returns : goal.returns
 returns c =
-    let long : length c.in-ok-parts-2.field-0.parts ≡ 5 = search rules in
-    cell_leads_at c.args.led c.args.round.now c.args.start c.args.size c.in-ok-parts-2.field-0 c.choice-rank-2.result c.role-number-heard.result c.from.result c.if-not-led.false c.requires.placed c.requires.within.0 long c.in-ok-parts-2.ensures c.choice-rank-2.ensures c.role-number-heard.ensures c.if-heard-eq0.false c.from.ensures
+    let long : length c.in_ok-parts-2.field-0.parts ≡ 5 = search rules in
+    cell_leads_at c.args.led c.args.round.now c.args.start c.args.size c.in_ok-parts-2.field-0 c.choice_rank-2.result c.role_number-heard.result c.from.result c.if-not-led.false c.requires.placed c.requires.within.0 long c.in_ok-parts-2.ensures c.choice_rank-2.ensures c.role_number-heard.ensures c.if-heard-eq0.false c.from.ensures

@@ -6,4 +6,4 @@ use Rattle.scenarios.proofs.read.read_cells.Given as goal
 
 -- the cells from i on are told
 abbrev pub invariant-loop-i : goal.invariant-loop-i
-invariant-loop-i l = Told l.round l.leader-cell l.i (total (take l.i (sizes_in l.count l.ranges))) (drop l.i (sizes_in l.count l.ranges)) l.tally
+invariant-loop-i l = Told l.round l.leader_cell l.i (total (take l.i (sizes_in l.count l.ranges))) (drop l.i (sizes_in l.count l.ranges)) l.tally

@@ -2,13 +2,13 @@ use Rattle.std.proofs.Common.{◌≡◌, ◌/◌, ◌^◌, ◌≤◌, length, ar
 use Rattle.scenarios.proofs.ReadingBack.{some_last, part_below, member_new, member_grows, member_falls}
 use Rattle.scenarios.proofs.read.read_member.Goals as goal
 
-pub overflow-sub-parts : goal.overflow-sub-parts
-overflow-sub-parts c =
+pub overflow_sub-parts : goal.overflow_sub-parts
+overflow_sub-parts c =
     let long : length c.args.reading.parts ≡ 5 = search rules in
     some_last c.args.reading long c.requires.whole c.args.next c.requires.below.0 c.if-above-eq1.true
 
-pub overflow-add-parts : goal.overflow-add-parts
-overflow-add-parts c =
+pub overflow_add-parts : goal.overflow_add-parts
+overflow_add-parts c =
     let long : length c.args.reading.parts ≡ 5 = search rules in
     let some = some_last c.args.reading long c.requires.whole c.args.next c.requires.below.0 c.if-above-eq1.true in
     let small = part_below c.args.reading long c.requires.whole c.requires.below.1 some in

@@ -9,18 +9,18 @@ use Rattle.scenarios.proofs.read.read_parts.Goals as goal
 pub loop-idx-init : goal.loop-idx-init
 loop-idx-init c = read_none c.args.round.now c.args.start
 
-pub read-member-requires : goal.read-member-requires
-read-member-requires c =
+pub read_member-requires : goal.read_member-requires
+read_member-requires c =
     let inv = c.loop-idx.invariant in
     let long = ap length inv.spells ∙ length-map-range_with_len (role c.args.round.now) c.args.start (c.loop-idx.idx - c.args.start) in
     let low = small c.args.round.now 0 c.loop-idx.idx in
-    record { whole = read_again c.loop-idx.reading _ inv; below = (omega (arith, c.role-number.ensures), omega (arith, c.requires)) }
+    record { whole = read_again c.loop-idx.reading _ inv; below = (omega (arith, c.role_number.ensures), omega (arith, c.requires)) }
 
-pub returns-in-err-reading : goal.returns-in-err-reading
-returns-in-err-reading c =
-    subst (PartsRead c.args.round.now c.args.start c.args.len) (sym c.from-residual.ensures)
-    (parts_fall c.args.round.now c.args.start c.args.len c.loop-idx.idx c.role-number.result _ (omega arith) (omega arith) c.role-number.ensures c.loop-idx.invariant.spells c.in-err-reading.ensures)
+pub returns-in_err-reading : goal.returns-in_err-reading
+returns-in_err-reading c =
+    subst (PartsRead c.args.round.now c.args.start c.args.len) (sym c.from_residual.ensures)
+    (parts_fall c.args.round.now c.args.start c.args.len c.loop-idx.idx c.role_number.result _ (omega arith) (omega arith) c.role_number.ensures c.loop-idx.invariant.spells c.in_err-reading.ensures)
 
 pub loop-idx-preserved : goal.loop-idx-preserved
 loop-idx-preserved c =
-    read_more c.args.round.now c.args.start c.loop-idx.idx c.role-number.result _ c.in-ok-reading.reading (omega arith) c.role-number.ensures c.loop-idx.invariant.spells c.in-ok-reading.ensures
+    read_more c.args.round.now c.args.start c.loop-idx.idx c.role_number.result _ c.in_ok-reading.reading (omega arith) c.role_number.ensures c.loop-idx.invariant.spells c.in_ok-reading.ensures

@@ -18,5 +18,5 @@ returns-in-3 c = sym (ap choose c.in-3.is ∙ choose_table.3)
 pub returns-in-4 : goal.returns-in-4
 returns-in-4 c = sym (ap choose c.in-4.is ∙ choose_table.4)
 
-pub returns-in-default : goal.returns-in-default
-returns-in-default c = sym (let h : 5 ≤ c.args.len = search rules in choose_past c.args.len h)
+pub returns-in_default : goal.returns-in_default
+returns-in_default c = sym (let h : 5 ≤ c.args.len = search rules in choose_past c.args.len h)

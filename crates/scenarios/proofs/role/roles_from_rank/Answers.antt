@@ -6,7 +6,7 @@ use Rattle.scenarios.proofs.role.roles_from_rank.Goals as goal
 pub returns-in-Some : goal.returns-in-Some
 returns-in-Some c =
     let r = choice_is c.args.len c.args.rank c.in-Some.mask (sym c.in-Some.ensures) in
-    ap (λ k. letters (take k c.roles-of.result)) (sym r.0) ∙ c.roles-of.ensures ∙ r.1
+    ap (λ k. letters (take k c.roles_of.result)) (sym r.0) ∙ c.roles_of.ensures ∙ r.1
 
 pub returns-in-None : goal.returns-in-None
 returns-in-None c = absurd (choice_there c.args.len c.args.rank c.requires (sym c.in-None.ensures))

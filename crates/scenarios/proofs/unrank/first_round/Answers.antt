@@ -22,8 +22,8 @@ loop-size-init c =
           subst (λ ts. Seeking r (cells c.args.n s) c.args.rank ts c.args.rank) (sym same) start,
     )
 
-pub returns-in-err-size : goal.returns-in-err-size
-returns-in-err-size c small counted layered below =
+pub returns-in_err-size : goal.returns-in_err-size
+returns-in_err-size c small counted layered below =
     let n = c.args.n in
     let R = c.args.rounds in
     let d = c.args.depth in
@@ -38,16 +38,16 @@ returns-in-err-size c small counted layered below =
     (λ lay. c.continuations-suffix.ensures n counted (omega (arith, c.requires.2)) lay) small in
     let a = at.mult_small in
     let b = at.size_small in
-    absurd (⊎_elim (λ h. omega arith) (λ h. omega arith) c.in-err-size.ensures)
+    absurd (⊎_elim (λ h. omega arith) (λ h. omega arith) c.in_err-size.ensures)
 
-pub nonzero-div-left : goal.nonzero-div-left
-nonzero-div-left c =
-    let t = c.in-ok-size.ensures in
+pub nonzero_div-left : goal.nonzero_div-left
+nonzero_div-left c =
+    let t = c.in_ok-size.ensures in
     some_factor c.loop-size.left c.edge-edge.result.multiplicity c.continuations-suffix.result (subst (λ k. c.loop-size.left < k) t c.if-left-size.true)
 
-pub round-at-round-requires : goal.round-at-round-requires
-round-at-round-requires c =
-    let t = c.in-ok-size.ensures in
+pub round_at-round-requires : goal.round_at-round-requires
+round_at-round-requires c =
+    let t = c.in_ok-size.ensures in
     let m = ap (λ y. y.multiplicity) c.edge-edge.ensures in
     let v = c.continuations-suffix.result in
     let left = c.loop-size.left in
@@ -72,9 +72,9 @@ returns-then-left-size c small counted layered below =
     let seek = c.loop-size.invariant.2 s c.of-edges.ensures.at small counted layered below in
     let at = at_edge n R d s c.args.rank left v c.requires.0 c.requires.2 layered e c.loop-size.invariant.0 cs seek x c.edge-edge.ensures
     (λ lay. c.continuations-suffix.ensures n counted (omega (arith, c.requires.2)) lay) small in
-    let t = c.in-ok-size.ensures in
+    let t = c.in_ok-size.ensures in
     step_from n R d s c.requires.0 c.requires.2 layered (turn_at e) (edge_among n R d s c.args.rank left v c.requires.0 c.requires.2 layered e c.loop-size.invariant.0 cs seek)
-    c.args.rank left v _ (at.found (subst (λ k. left < k) t c.if-left-size.true)) at.suffix (c.round-at-round.ensures ∙ ap (round (turn_at e)) c.from-number.ensures) at.next_is refl
+    c.args.rank left v _ (at.found (subst (λ k. left < k) t c.if-left-size.true)) at.suffix (c.round_at-round.ensures ∙ ap (round (turn_at e)) c.from-number.ensures) at.next_is refl
 
 pub returns-then-not-advance : goal.returns-then-not-advance
 returns-then-not-advance c small counted layered below =
@@ -90,7 +90,7 @@ returns-then-not-advance c small counted layered below =
     let seek = c.loop-size.invariant.2 s c.of-edges.ensures.at small counted layered below in
     let at = at_edge n R d s c.args.rank left v c.requires.0 c.requires.2 layered e c.loop-size.invariant.0 cs seek x c.edge-edge.ensures
     (λ lay. c.continuations-suffix.ensures n counted (omega (arith, c.requires.2)) lay) small in
-    let t = c.in-ok-size.ensures in
+    let t = c.in_ok-size.ensures in
     at.ended c.if-not-advance.ensures (subst (λ k. k ≤ left) t c.if-left-size.false)
 
 pub loop-size-smaller : goal.loop-size-smaller
@@ -115,6 +115,6 @@ loop-size-preserved c =
           let seek = c.loop-size.invariant.2 s q small counted layered below in
           let at = at_edge n R d s c.args.rank left v c.requires.0 c.requires.2 layered e c.loop-size.invariant.0 cs seek x c.edge-edge.ensures
           (λ lay. c.continuations-suffix.ensures n counted (omega (arith, c.requires.2)) lay) small in
-          let t = c.in-ok-size.ensures in
+          let t = c.in_ok-size.ensures in
           subst (λ k. Seeking (R - (d + 1)) (cells n s) c.args.rank (left_of c.advance.new.self) (left - k)) (sym t) (at.passed c.advance.new.self m (subst (λ k. k ≤ left) t c.if-left-size.false)),
     )

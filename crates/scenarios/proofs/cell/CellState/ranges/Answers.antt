@@ -18,7 +18,7 @@ bounds false len start idx h k = (omega arith, omega arith)
 
 pub loop-idx-preserved : goal.loop-idx-preserved
 loop-idx-preserved c =
-    let b : Bool = c.boundary-after-ends.result in
+    let b : Bool = c.boundary_after-ends.result in
     let n : ℕ = c.args.n in
     let s : ℕ = c.args.self.boundaries in
     let i : ℕ = c.loop-idx.idx in
@@ -31,11 +31,11 @@ loop-idx-preserved c =
       | else-ends w ↦ w.start-is ∙ sym (ap (λ t. cond t (i + 1) c.loop-idx.start) w.if-ends.false)
     ] in
     let m = bounds b c.loop-idx.len c.loop-idx.start i c.loop-idx.invariant.1 c.loop-idx.invariant.2 in
-    let e = ranged_more b rs c.loop-idx.len c.loop-idx.start i flags (omega arith) (omega arith) (c.boundary-after-ends.ensures ∙ sym g) c.loop-idx.invariant.2 in (
-      ap length c.put-if-len.ensures.written ∙ length_put b rs c.loop-idx.len (c.loop-idx.start, i + 1 - c.loop-idx.start) ∙ c.loop-idx.invariant.0,
-      rw (start', c.put-if-len.ensures.place) m.0,
+    let e = ranged_more b rs c.loop-idx.len c.loop-idx.start i flags (omega arith) (omega arith) (c.boundary_after-ends.ensures ∙ sym g) c.loop-idx.invariant.2 in (
+      ap length c.put_if-len.ensures.written ∙ length_put b rs c.loop-idx.len (c.loop-idx.start, i + 1 - c.loop-idx.start) ∙ c.loop-idx.invariant.0,
+      rw (start', c.put_if-len.ensures.place) m.0,
       rw start' m.1,
-      rw (start', c.put-if-len.ensures.place, c.put-if-len.ensures.written) (e ∙ c.loop-idx.invariant.3),
+      rw (start', c.put_if-len.ensures.place, c.put_if-len.ensures.written) (e ∙ c.loop-idx.invariant.3),
     )
 
 pub returns : goal.returns

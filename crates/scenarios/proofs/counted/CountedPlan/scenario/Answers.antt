@@ -34,14 +34,14 @@ returns-in-None c =
       corresponds = corresponds p c.args.self.now.total c.args.self.now.memory.now;
     }
 
-pub returns-in-Some-unrank-plan : goal.returns-in-Some-unrank-plan
-returns-in-Some-unrank-plan c =
+pub returns-in-Some-unrank_plan : goal.returns-in-Some-unrank_plan
+returns-in-Some-unrank_plan c =
     let p = c.args.self.now.plan in
     let total = c.args.self.now.total in
     let mem = c.args.self.now.memory.now in
     record {
       told = λ k.
-          let u = c.in-Some-unrank-plan.ensures total k c.if-rank-self.false in
+          let u = c.in-Some-unrank_plan.ensures total k c.if-rank-self.false in
           let below = subst (λ t. c.args.rank < t) k.total_is c.if-rank-self.false in
           let both = corresponds p total mem k in
           (fault_none p c.args.rank _ c.if-rounds-plan.false below, u.0, u.1, both.legal c.args.rank below, both.canonical c.args.rank below);

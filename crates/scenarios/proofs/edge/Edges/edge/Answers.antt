@@ -9,8 +9,8 @@ use Rattle.scenarios.proofs.edge.Edges.edge.Goals as goal
 pub loop-i-init : goal.loop-i-init
 loop-i-init c = summed_none c.args.self.now
 
-pub add-local-boundaries-ends-requires : goal.add-local-boundaries-ends-requires
-add-local-boundaries-ends-requires c =
+pub add_local_boundaries-ends-requires : goal.add_local_boundaries-ends-requires
+add_local_boundaries-ends-requires c =
     let e = c.args.self.now in
     let i = c.loop-i.i in
     let h = c.loop-i-test.true in
@@ -34,26 +34,26 @@ multiplicity-requires c =
       some = some_refined (eqb i e.leader) _ (split_of e i) (split_at e c.requires i c.loop-i-test.true);
     }
 
-again : (c : goal.After-multiplicity) → Summed c.args.self.now (c.loop-i.i + 1) c.add-local-boundaries-ends.result (c.loop-i.multiplicity * c.multiplicity.result)
+again : (c : goal.After-multiplicity) → Summed c.args.self.now (c.loop-i.i + 1) c.add_local_boundaries-ends.result (c.loop-i.multiplicity * c.multiplicity.result)
 again c =
     let e = c.args.self.now in
     let i = c.loop-i.i in
     let h = c.loop-i-test.true in
     let x0 = ap (λ (g : ℕ × ℕ). g.0) (range_at e c.requires i h) in
-    summed_more e c.requires i c.loop-i.ends c.loop-i.multiplicity c.loop-i.invariant h c.add-local-boundaries-ends.result (c.loop-i.multiplicity * c.multiplicity.result)
-    (c.add-local-boundaries-ends.ensures ∙ ap (λ k. c.loop-i.ends + 2 ^ k * ends (sizes (split_of e i))) x0)
+    summed_more e c.requires i c.loop-i.ends c.loop-i.multiplicity c.loop-i.invariant h c.add_local_boundaries-ends.result (c.loop-i.multiplicity * c.multiplicity.result)
+    (c.add_local_boundaries-ends.ensures ∙ ap (λ k. c.loop-i.ends + 2 ^ k * ends (sizes (split_of e i))) x0)
     (ap (λ k. c.loop-i.multiplicity * k) c.multiplicity.ensures)
 
-pub overflow-mul-multiplicity : goal.overflow-mul-multiplicity
-overflow-mul-multiplicity c =
-    let b = summed_fits c.args.self.now c.requires (c.loop-i.i + 1) c.add-local-boundaries-ends.result (c.loop-i.multiplicity * c.multiplicity.result) (again c) (omega arith) in
+pub overflow_mul-multiplicity : goal.overflow_mul-multiplicity
+overflow_mul-multiplicity c =
+    let b = summed_fits c.args.self.now c.requires (c.loop-i.i + 1) c.add_local_boundaries-ends.result (c.loop-i.multiplicity * c.multiplicity.result) (again c) (omega arith) in
     omega arith
 
 pub loop-i-preserved : goal.loop-i-preserved
 loop-i-preserved c = again c
 
-pub overflow-sub-boundaries : goal.overflow-sub-boundaries
-overflow-sub-boundaries c = walk_some c.args.self.now c.requires
+pub overflow_sub-boundaries : goal.overflow_sub-boundaries
+overflow_sub-boundaries c = walk_some c.args.self.now c.requires
 
 pub returns : goal.returns
 returns c =

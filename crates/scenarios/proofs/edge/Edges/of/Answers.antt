@@ -6,8 +6,8 @@ use Rattle.scenarios.proofs.States.{cells_stand}
 use Rattle.scenarios.proofs.Walkings.{sizes_ranges, small_cells, walk_begins}
 use Rattle.scenarios.proofs.edge.Edges.of.Goals as goal
 
-pub first-splits-requires : goal.first-splits-requires
-first-splits-requires c =
+pub first_splits-requires : goal.first_splits-requires
+first_splits-requires c =
     let r = c.ranges-cells.result in
     let long : length r.0 ≡ 64 = search rules in
     let few = c.ranges-cells.ensures.few in
@@ -25,6 +25,6 @@ pub returns : goal.returns
 returns c =
     let r = c.ranges-cells.result in
     let long : length r.0 ≡ 64 = search rules in
-    let long' : length c.first-splits.new.splits ≡ 64 = search rules in
-    walk_begins c.args.n c.args.state.boundaries r.0 r.1 c.first-splits.new.splits c.requires.0 c.requires.1 long long'
-    c.ranges-cells.ensures.listed c.ranges-cells.ensures.few c.first-splits.ensures.begun c.first-splits.ensures.short
+    let long' : length c.first_splits.new.splits ≡ 64 = search rules in
+    walk_begins c.args.n c.args.state.boundaries r.0 r.1 c.first_splits.new.splits c.requires.0 c.requires.1 long long'
+    c.ranges-cells.ensures.listed c.ranges-cells.ensures.few c.first_splits.ensures.begun c.first_splits.ensures.short

@@ -7,8 +7,8 @@ use Rattle.scenarios.specs.Refinements.{Refined, sizes}
 use Rattle.scenarios.proofs.Moving.{total_take, led_step}
 use Rattle.scenarios.proofs.refinement.LocalRefinement.next.Goals as goal
 
-pub next-composition-requires-2 : goal.next-composition-requires-2
-next-composition-requires-2 c =
+pub next_composition-requires-2 : goal.next_composition-requires-2
+next_composition-requires-2 c =
     let n = c.args.self.len in
     let ps = c.args.self.parts in
     let e = take-take (n - 1) n ps (omega arith) in
@@ -25,23 +25,23 @@ next-composition-requires-2 c =
 led_next : (led : Bool) (ps : List ℕ) (o : Option (List ℕ)) → led ≡ true → next_split true ps ≡ o → next_split led ps ≡ o
 led_next led ps o e h = ap (λ b. next_split b ps) e ∙ h
 
-pub returns-in-err-parts-2 : goal.returns-in-err-parts-2
-returns-in-err-parts-2 c =
+pub returns-in_err-parts-2 : goal.returns-in_err-parts-2
+returns-in_err-parts-2 c =
     let long : length c.args.self.parts ≡ 5 = search rules in
     let b = c.requires.within in
     let h : c.args.self.len ≤ length c.args.self.parts = omega arith in
-    subst (Refined c.args.led (sizes c.args.self)) (sym c.from-residual-in-err-parts-2.ensures)
-    (led_next c.args.led (sizes c.args.self) None c.if-not-led.false (led_step c.args.self.parts c.args.self.len None h c.in-err-parts-2.ensures))
+    subst (Refined c.args.led (sizes c.args.self)) (sym c.from_residual-in_err-parts-2.ensures)
+    (led_next c.args.led (sizes c.args.self) None c.if-not-led.false (led_step c.args.self.parts c.args.self.len None h c.in_err-parts-2.ensures))
 
 pub returns : goal.returns
 returns c =
     let long : length c.args.self.parts ≡ 5 = search rules in
-    let long' : length c.in-ok-parts-2.parts ≡ 5 = search rules in
+    let long' : length c.in_ok-parts-2.parts ≡ 5 = search rules in
     let b = c.requires.within in
     let h : c.args.self.len ≤ length c.args.self.parts = omega arith in
-    let r = c.in-ok-parts-2.ensures in
-    let q = c.in-ok-parts-2.parts in
-    let k = c.in-ok-parts-2.len in
+    let r = c.in_ok-parts-2.ensures in
+    let q = c.in_ok-parts-2.parts in
+    let k = c.in_ok-parts-2.len in
     let s = led_step c.args.self.parts c.args.self.len (Some (take k q)) h r.0 in
     let t : k < length q = omega arith in
     (led_next c.args.led (sizes c.args.self) _ c.if-not-led.false (s ∙ ap Some (sym (take_more_set q k 1 t))), omega arith)
