@@ -8,6 +8,7 @@ pub mod Steps
 pub mod Canonical
 pub mod Scenarios
 pub mod Claims
+pub mod Worked
 pub mod Roles
 pub mod Refinements
 pub mod Edges

@@ -2,6 +2,7 @@
 
 #![tactic(auto)]
 
+ghost use Rattle.scenarios.specs.Worked.{WorkedTotals, WorkedRanks};
 ghost use Rattle.scenarios.specs.Claims.{TurnsFit, TurnsApart, TurnsBegin, TurnsWalk, RoundsStand, RoundsFound, RoundsApart, RanksCorrespond, CellsResidual, RepeatsCanonical};
 
 mod canon;
@@ -32,6 +33,14 @@ pub use mask::mask_contains;
 pub use mode::Mode;
 pub use plan::{Plan, PlanNumbers};
 pub use round::RoundScenario;
+
+// Worked numbers, of the definitions that the other contracts cite.
+pub fn worked_stand() -> u8
+    ensures worked_totals { WorkedTotals }
+    ensures worked_ranks { WorkedRanks }
+{
+    0
+}
 
 // The turns from given cells are those that fit, each once, and a walk takes them in their order.
 pub fn turns_stand() -> u8

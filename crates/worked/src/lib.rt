@@ -2,7 +2,8 @@
 
 #![tactic(auto)]
 
-ghost use Rattle.worked.specs.Worked.{WorkedTotals, WorkedRanks, WorkedDraws, WorkedSets, WorkedTerms, WorkedGroups};
+ghost use Rattle.scenarios.specs.Worked.{WorkedTotals, WorkedRanks};
+ghost use Rattle.worked.specs.Worked.{WorkedDraws, WorkedSets, WorkedTerms, WorkedGroups};
 
 // Totals, ranks, draws, compromised sets, terms, groups and a route at given values.
 pub fn worked_stand() -> u8

@@ -9,11 +9,11 @@ use Rattle.worked.proofs.worked_stand.Goals as goal
 
 pub returns : goal.returns
 unfolding bit round_of roles_in choices choose subset turns weight after round draw sample sets
-returns c = (
-  (refl, lit≤ tt, refl, refl),
-  (refl, refl, refl, refl, refl, refl, refl),
-  (refl, λ a b c d. refl),
-  (refl, refl),
-  (refl, refl),
-  (refl, refl, refl),
-)
+returns c = record {
+  worked_totals = (refl, lit≤ tt, refl, refl);
+  worked_ranks = (refl, refl, refl, refl, refl, refl, refl);
+  worked_draws = (refl, λ a b c d. refl);
+  worked_sets = (refl, refl);
+  worked_terms = (refl, refl);
+  worked_groups = (refl, refl, refl);
+}
