@@ -6,24 +6,24 @@ use Rattle.sets.proofs.+allocate_faults.Goals as goal
 pub returns-then-cell-ranges : goal.returns-then-cell-ranges
 returns-then-cell-ranges t c = allocated_past c.args.ranges.now c.args.cell c.args.faults c.args.number c.if-cell-ranges.true c.requires.numbered c.args.members.now
 
-pub find-taken-taken-requires : goal.find-taken-taken-requires
-find-taken-taken-requires t c =
-    let is = ways_more c.args.ranges.now c.args.cell c.if-cell-ranges.false c.ways-from-rest.result c.ways-from-rest.ensures c.args.faults c.requires.few in
+pub find_taken-taken-requires : goal.find_taken-taken-requires
+find_taken-taken-requires t c =
+    let is = ways_more c.args.ranges.now c.args.cell c.if-cell-ranges.false c.ways_from-rest.result c.ways_from-rest.ensures c.args.faults c.requires.few in
     record { few = c.requires.few; numbered = omega (arith, is, c.requires.numbered) }
 
-pub write-members-requires : goal.write-members-requires
-write-members-requires t c =
-    let found = c.find-taken-taken in
+pub write_members-requires : goal.write_members-requires
+write_members-requires t c =
+    let found = c.find_taken-taken in
     let within = found.ensures.within in
     record {
       room = omega arith;
-      small = cell_fits c.args.ranges.now c.args.cell c.args.faults c.args.number found.result.0 found.result.1 c.ways-from-rest.result c.if-cell-ranges.false c.requires.few
-          c.ways-from-rest.ensures within found.ensures.below found.ensures.split c.requires.placed c.requires.small;
+      small = cell_fits c.args.ranges.now c.args.cell c.args.faults c.args.number found.result.0 found.result.1 c.ways_from-rest.result c.if-cell-ranges.false c.requires.few
+          c.ways_from-rest.ensures within found.ensures.below found.ensures.split c.requires.placed c.requires.small;
     }
 
 pub returns : goal.returns
 returns t c =
-    let found = c.find-taken-taken in
-    allocated_written c.args.ranges.now c.args.cell c.args.faults c.args.number found.result.0 found.result.1 c.ways-from-rest.result c.if-cell-ranges.false c.requires.few
-    c.ways-from-rest.ensures found.ensures.within found.ensures.below found.ensures.split c.requires.placed
-    c.args.members.now c.write-members.new.members c.allocate-faults.new.members c.requires.room c.write-members.ensures c.allocate-faults.ensures
+    let found = c.find_taken-taken in
+    allocated_written c.args.ranges.now c.args.cell c.args.faults c.args.number found.result.0 found.result.1 c.ways_from-rest.result c.if-cell-ranges.false c.requires.few
+    c.ways_from-rest.ensures found.ensures.within found.ensures.below found.ensures.split c.requires.placed
+    c.args.members.now c.write_members.new.members c.allocate_faults.new.members c.requires.room c.write_members.ensures c.allocate_faults.ensures

@@ -8,8 +8,8 @@ loop-faults-preserved c =
     let at = c.loop-faults.faults in
     let long : length ways ≡ 64 = c.loop-faults.invariant.0 in
     let lt : at < length ways = omega arith in (
-      length-set ways at c.ways-of.result ∙ long,
+      length-set ways at c.ways_of.result ∙ long,
       below_more _ _
           (λ k h. let ne : k ≢ at = omega arith in get_or-set_other ways at k _ 0 ne ∙ c.loop-faults.invariant.1 k h)
-          (get_or-set_same ways at _ 0 lt ∙ c.ways-of.ensures),
+          (get_or-set_same ways at _ 0 lt ∙ c.ways_of.ensures),
     )

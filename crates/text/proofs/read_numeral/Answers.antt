@@ -3,12 +3,12 @@ use Rattle.std.proofs.lemmas.List.{at_drop_all}
 use Rattle.text.proofs.Digits.{counted, counted_more, counted_stop, counted_all}
 use Rattle.text.proofs.read_numeral.Goals as goal
 
-pub returns-in-err-n : goal.returns-in-err-n
-returns-in-err-n c = c.from-residual.ensures ∙ sym (counted_stop c.loop-b.n c.args.bytes.now c.loop-b.b-index c.loop-b-test.true (sym c.in-err-n.ensures)) ∙ c.loop-b.invariant.1
+pub returns-in_err-n : goal.returns-in_err-n
+returns-in_err-n c = c.from_residual.ensures ∙ sym (counted_stop c.loop-b.n c.args.bytes.now c.loop-b.b-index c.loop-b-test.true (sym c.in_err-n.ensures)) ∙ c.loop-b.invariant.1
 
 pub loop-b-preserved : goal.loop-b-preserved
 loop-b-preserved c =
-    let y = counted_more c.loop-b.n c.in-ok-n.n c.args.bytes.now c.loop-b.b-index c.loop-b-test.true (sym c.in-ok-n.ensures) in
+    let y = counted_more c.loop-b.n c.in_ok-n.n c.args.bytes.now c.loop-b.b-index c.loop-b-test.true (sym c.in_ok-n.ensures) in
     (y.0, y.1 ∙ c.loop-b.invariant.1)
 
 pub returns : goal.returns

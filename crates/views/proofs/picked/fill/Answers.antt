@@ -4,26 +4,26 @@ use Rattle.views.specs.Groups.{picked}
 use Rattle.views.proofs.Picking.{length_picked_below, put_picked}
 use Rattle.views.proofs.picked.fill.Goals as goal
 
-pub put-if-p-requires : goal.put-if-p-requires
-put-if-p-requires g c κs e =
-    let below = length_picked_below c.args.round.primary c.args.names.now c.loop-i.i c.mask-contains.result c.loop-i-test.true c.mask-contains.ensures e in
+pub put_if-p-requires : goal.put_if-p-requires
+put_if-p-requires g c κs e =
+    let below = length_picked_below c.args.round.primary c.args.names.now c.loop-i.i c.mask_contains.result c.loop-i-test.true c.mask_contains.ensures e in
     let at = c.loop-i.invariant.0.place in
     omega arith
 
-pub put-if-s-requires : goal.put-if-s-requires
-put-if-s-requires g c κs e =
-    let below = length_picked_below c.args.round.secondary c.args.names.now c.loop-i.i c.mask-contains-in-loop-i.result c.loop-i-test.true c.mask-contains-in-loop-i.ensures e in
+pub put_if-s-requires : goal.put_if-s-requires
+put_if-s-requires g c κs e =
+    let below = length_picked_below c.args.round.secondary c.args.names.now c.loop-i.i c.mask_contains-in-loop-i.result c.loop-i-test.true c.mask_contains-in-loop-i.ensures e in
     let at = c.loop-i.invariant.1.place in
     omega arith
 
 pub loop-i-preserved : goal.loop-i-preserved
 loop-i-preserved g c = (
-  put_picked c.args.round.primary c.args.names.now c.args.primary.now c.loop-i.primary c.put-if-p.new.memory c.loop-i.i c.loop-i.p c.put-if-p.result
-      c.index-names-i.result c.mask-contains.result c.loop-i-test.true c.index-names-i.is c.mask-contains.ensures c.requires.first c.loop-i.invariant.0
-      c.put-if-p.ensures.place c.put-if-p.ensures.written,
-  put_picked c.args.round.secondary c.args.names.now c.args.secondary.now c.loop-i.secondary c.put-if-s.new.memory c.loop-i.i c.loop-i.s c.put-if-s.result
-      c.index-names-i.result c.mask-contains-in-loop-i.result c.loop-i-test.true c.index-names-i.is c.mask-contains-in-loop-i.ensures c.requires.second c.loop-i.invariant.1
-      c.put-if-s.ensures.place c.put-if-s.ensures.written,
+  put_picked c.args.round.primary c.args.names.now c.args.primary.now c.loop-i.primary c.put_if-p.new.memory c.loop-i.i c.loop-i.p c.put_if-p.result
+      c.index-names-i.result c.mask_contains.result c.loop-i-test.true c.index-names-i.is c.mask_contains.ensures c.requires.first c.loop-i.invariant.0
+      c.put_if-p.ensures.place c.put_if-p.ensures.written,
+  put_picked c.args.round.secondary c.args.names.now c.args.secondary.now c.loop-i.secondary c.put_if-s.new.memory c.loop-i.i c.loop-i.s c.put_if-s.result
+      c.index-names-i.result c.mask_contains-in-loop-i.result c.loop-i-test.true c.index-names-i.is c.mask_contains-in-loop-i.ensures c.requires.second c.loop-i.invariant.1
+      c.put_if-s.ensures.place c.put_if-s.ensures.written,
 )
 
 pub returns : goal.returns

@@ -5,8 +5,8 @@ use Rattle.views.proofs.script.round_at.Goals as goal
 
 pub returns-then-place-rounds : goal.returns-then-place-rounds
 returns-then-place-rounds c =
-    sym (slice_get-get_or c.args.rounds.now c.script-place-place.result _ c.if-place-rounds.true) ∙ ap (slice_get c.args.rounds.now) c.script-place-place.ensures
+    sym (slice_get-get_or c.args.rounds.now c.script_place-place.result _ c.if-place-rounds.true) ∙ ap (slice_get c.args.rounds.now) c.script_place-place.ensures
 
 pub returns-else-place-rounds : goal.returns-else-place-rounds
 returns-else-place-rounds c =
-    sym (slice_get_past c.args.rounds.now c.script-place-place.result c.if-place-rounds.false) ∙ ap (slice_get c.args.rounds.now) c.script-place-place.ensures
+    sym (slice_get_past c.args.rounds.now c.script_place-place.result c.if-place-rounds.false) ∙ ap (slice_get c.args.rounds.now) c.script_place-place.ensures
