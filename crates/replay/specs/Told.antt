@@ -1,11 +1,7 @@
 -- When a stored answer agrees.
-use Rattle.std.specs.Prelude.{ℕ, ◌-◌, Bool, false, not, ◌&&◌, length, is_some, Some, None, Option, ◌==◌, nat_lt}
+use Rattle.std.specs.Prelude.{ℕ, ◌-◌, Bool, false, not, ◌&&◌, is_some, Some, None, Option, ◌==◌, nat_lt}
 use Rattle.scenarios.specs.declared.edge.TransitionEdge.{TransitionEdge}
-use Rattle.scenarios.specs.Cells.{cells}
 use Rattle.scenarios.specs.Edges.{edge_in}
-use Rattle.sets.specs.Answers.{faults_fault}
-use Rattle.sets.specs.Sets.{sets}
-use Rattle.terms.specs.Terms as terms
 
 -- there is an edge, to the state `next`, led by the cell `leader`, and it stands for w rounds
 abbrev pub edge_told : Option TransitionEdge → ℕ → ℕ → ℕ → Bool
@@ -15,11 +11,3 @@ edge_told (Some e) next leader w = e.next.boundaries == next && (e.leader == lea
 -- the state s has as many edges as the count
 abbrev pub edges_told : ℕ → ℕ → ℕ → Bool
 edges_told n s count = nat_lt 0 count && (is_some (edge_in n s (count - 1)) && not (is_some (edge_in n s count)))
-
--- participants and faults break no rule, and as many sets as the count take a first few of each cell of the state s
-abbrev pub sets_told : ℕ → ℕ → ℕ → ℕ → Bool
-sets_told n s f count = not (is_some (faults_fault n f)) && length (sets (cells n s) f) == count
-
--- there is such a term length, and with it the view has this term number, this script place and this term start
-abbrev pub place_told : ℕ → ℕ → ℕ → ℕ → ℕ → Bool
-place_told length view i p s = nat_lt 0 length && (terms.term_index length view == i && (terms.script_place length view == p && terms.term_start length view == s))

@@ -4,15 +4,8 @@ ghost use Rattle.std.specs.Prelude.{◌≡◌};
 ghost use Rattle.scenarios.specs.Edges.{edge_in};
 ghost use Rattle.replay.specs.Told.{edge_told, edges_told};
 
-use crate::allocation::{set_agrees, sets_agree};
-use crate::chance::{sample_agrees, shuffle_agrees, splitmix_agrees};
-use crate::groups::{partitions_agree, view_partitions_agree};
-use crate::leading::elect_agrees;
-use crate::line::{read_number, read_plan, read_rounds};
-use crate::memory::Memory;
-use crate::place::place_agrees;
-use crate::routes::{route_agrees, view_route_agrees};
 use crate::tally::Kind;
+use crate::words::{read_number, read_plan, read_rounds};
 use scenarios::{CellState, Plan, RoundScenario, Slot, edge_at};
 use std::str::SplitWhitespace;
 
@@ -135,28 +128,12 @@ fn unrank_agrees(words: &mut SplitWhitespace<'_>, memory: &mut [Slot]) -> Option
 pub(crate) fn agrees(
     kind: Kind,
     words: &mut SplitWhitespace<'_>,
-    memory: &mut Memory,
+    memory: &mut [Slot],
 ) -> Option<bool> {
-    let slots = memory.slots.as_mut_slice();
-    let ranks = memory.ranks.as_mut_slice();
-    let items = memory.items.as_mut_slice();
-    let tape = memory.tape.as_mut_slice();
-    let rounds = memory.rounds.as_mut_slice();
     match kind {
-        Kind::Total => total_agrees(words, slots),
+        Kind::Total => total_agrees(words, memory),
         Kind::Edges => edges_agree(words),
         Kind::Edge => edge_agrees(words),
-        Kind::Unrank => unrank_agrees(words, slots),
-        Kind::Sample => sample_agrees(words, tape, ranks),
-        Kind::Shuffle => shuffle_agrees(words, tape, items),
-        Kind::SplitMix => splitmix_agrees(words),
-        Kind::Sets => sets_agree(words),
-        Kind::Set => set_agrees(words),
-        Kind::Place => place_agrees(words),
-        Kind::Partitions => partitions_agree(words, rounds),
-        Kind::Route => route_agrees(words, rounds),
-        Kind::ViewPartitions => view_partitions_agree(words),
-        Kind::ViewRoute => view_route_agrees(words),
-        Kind::Elect => elect_agrees(words),
+        Kind::Unrank => unrank_agrees(words, memory),
     }
 }

@@ -17,13 +17,13 @@ loop-round-preserved g c p =
     let i = c.loop-round.round-index in
     let zero : RoundScenario = record { leader = 0; primary = 0; secondary = 0 } in
     let before = c.loop-round.invariant p in
-    let this = c.in_ok-write-2.ensures.shows before.plain refl in
+    let this = c.in_ok-write-2.ensures.writes before.plain refl in
     has_written_of_eq g.W.Write.write_str_gives _ _ _ _ (flat_map_more item [] (take i rounds) (get_or rounds i zero) ∙ ap (flat_map item) (sym (take_more rounds i zero c.loop-round-test.true))) (has_written_append g.W.Write.write_str_gives _ _ _ _ _ before this)
 
 -- src/show.rt:51:5: the rank, and then all rounds
 pub returns-clause-writes : goal.returns-clause-writes
 returns-clause-writes g c p e =
     let rounds = c.args.self.now.rounds.now in
-    let rank = c.in_ok-write.ensures.shows p refl in
+    let rank = c.in_ok-write.ensures.writes p refl in
     let after = c.loop-round.invariant rank.plain in
     has_written_of_eq g.W.Write.write_str_gives _ _ _ _ (ap (λ xs. decimal c.args.self.now.rank ++ flat_map item xs) (take_all c.loop-round.round-index rounds c.loop-round-test.false)) (has_written_append g.W.Write.write_str_gives _ _ _ _ _ rank after)
