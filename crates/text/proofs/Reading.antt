@@ -10,7 +10,7 @@ use Rattle.refusals.specs.Refusals.{number_of, place_of}
 use Rattle.text.proofs.Fields.{and_then, Got, Faulty, Free, field, field_ok, field_read, field_fine, field_fault, rest_is}
 use Rattle.text.proofs.Digits.{numeral_written, numeral_decimal, free_decimal}
 use Rattle.text.specs.declared.PlanLine.{PlanLine}
-use Rattle.text.specs.Lines.{Field, field_at, mode_of, letter, written, Line, numeral, mode_in, number_at, mode_at, number_field, mode_field, fields, fault_from, fault, Refused}
+use Rattle.text.specs.Lines.{Field, field_at, mode_of, letter, written, Line, numeral, mode_in, number_at, mode_at, number_field, mode_field, fault_from, fault, Refused}
 
 abbrev pub ended : List ℕ → PlanLine → ℕ → Result PlanLine Refusal
 ended text l at = cond (ltb at (length text)) (Err (Fault at)) (Ok l)
