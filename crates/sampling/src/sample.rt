@@ -28,7 +28,7 @@ pub fn sample_unique_indices<S: Source>(
     asked: u64,
     ranks: &mut [RankSlot],
 ) -> Result<u64, Refusal>
-    ensures { samples.SamplingTold total asked (coming source.old) ranks.old result (coming source.new) ranks.new }
+    ensures { samples.SamplingTold total asked (S.coming source.old) ranks.old result (S.coming source.new) ranks.new }
 {
     let many = asked.min(total);
     if (ranks.len() as u64) < many {

@@ -7,7 +7,7 @@ use words::{Source, draw_up_to};
 // Exchanges each position, from the last down to the second, with one that is drawn up to it.
 // Where the words run out, the exchanges made so far stay.
 pub fn shuffle_items<T, S: Source>(items: &mut [T], source: &mut S) -> Result<(), Refusal>
-    ensures { shuffles.ShuffleTold items.old (coming source.old) result (coming source.new) items.new }
+    ensures { shuffles.ShuffleTold items.old (S.coming source.old) result (S.coming source.new) items.new }
 {
     for i in (1..items.len()).rev() {
         let j = draw_up_to(source, i as u64)?;

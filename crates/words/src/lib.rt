@@ -26,8 +26,8 @@ pub trait Source {
 
 // A number up to the bound, drawn from the words to come.
 pub fn draw_up_to<S: Source>(source: &mut S, bound: u64) -> Result<u64, Refusal>
-    ensures drawn { Drawn bound (coming source.old) result (coming source.new) }
-    ensures words { (bs : List ℕ) → WordsUsed bs (coming source.old) (draws bs (coming source.old)) }
+    ensures drawn { Drawn bound (S.coming source.old) result (S.coming source.new) }
+    ensures words { (bs : List ℕ) → WordsUsed bs (S.coming source.old) (draws bs (S.coming source.old)) }
 {
     let word = source.take()?;
     match bound.checked_add(1) {

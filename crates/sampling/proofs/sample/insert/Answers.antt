@@ -11,5 +11,5 @@ returns-in-There c s room holds fresh =
     (subst (λ l. AddedAs (λ e. (e.key ∷ []) ≡ c.args.bound ∷ []) (slot c.args.bound) l (min c.args.len (length l)) c.add-in-There.result c.add-in-There.new.slots) there.1 c.add-in-There.ensures)
     fresh
 
-pub returns-in-default : goal.returns-in-default
-returns-in-default c s room holds fresh = inserted_new c.args.ranks.now s c.args.len room holds c.args.drawn c.args.bound c.add.result c.add.new.slots c.add.ensures c.in-default.not-There
+pub returns-in_default : goal.returns-in_default
+returns-in_default c s room holds fresh = inserted_new c.args.ranks.now s c.args.len room holds c.args.drawn c.args.bound c.add.result c.add.new.slots c.add.ensures c.in_default.not-There

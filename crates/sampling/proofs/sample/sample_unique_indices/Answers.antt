@@ -7,7 +7,7 @@ pub returns-in-Err : goal.returns-in-Err
 returns-in-Err g c =
     let w = g.S.Source.coming c.args.source.now in
     let xs = c.args.ranks.now in
-    let w' = g.S.Source.coming c.draw-up-to.new.source in
+    let w' = g.S.Source.coming c.draw_up_to.new.source in
     let e = c.min-many.ensures in
     let fits : c.min-many.result ≤ c.args.total = omega arith in
     let d = c.in-Err.ensures.drawn in
