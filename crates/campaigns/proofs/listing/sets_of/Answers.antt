@@ -9,8 +9,8 @@ returns-in-Ok c counted below =
     let plan = c.args.counted.now.plan in
     let numbers = c.numbers-numbers.ensures in
     let s = c.in-Ok.state in
-    let r = c.count-sets.result in
-    let sets = subst (λ f. SetsCounted plan.participants f s.boundaries r) numbers.1 (subst (λ n. SetsCounted n c.numbers-numbers.result.faults s.boundaries r) numbers.0 c.count-sets.ensures) in
+    let r = c.count_sets.result in
+    let sets = subst (λ f. SetsCounted plan.participants f s.boundaries r) numbers.1 (subst (λ n. SetsCounted n c.numbers-numbers.result.faults s.boundaries r) numbers.0 c.count_sets.ensures) in
     c.ok.ensures.value ∙ ap result_ok (sets_of_rank plan c.args.counted.now.total c.args.counted.now.memory.now counted c.args.rank below _ _ s r (c.in-Ok.ensures.told counted) sets)
 
 pub returns-in-Err : goal.returns-in-Err

@@ -9,20 +9,20 @@ returns-in-Ok g c =
     let total = c.args.counted.now.total in
     let memory = c.args.counted.now.memory.now in
     let w = g.S.Source.coming c.args.source.now in
-    let w' = g.S.Source.coming c.sample-unique-indices.new.source in
+    let w' = g.S.Source.coming c.sample_unique_indices.new.source in
     let ranks = c.args.ranks.now in
-    let ranks₁ = c.sample-unique-indices.new.ranks in
-    let at = c.list-sampled-at.result in
-    let ys = c.list-sampled-at.new.tickets in
+    let ranks₁ = c.sample_unique_indices.new.ranks in
+    let at = c.list_sampled-at.result in
+    let ys = c.list_sampled-at.new.tickets in
     let fits = c.fitting-in-Ok.ensures in
     let cap = c.numbers-cap.ensures.4 in
     let more : plan.cap < total = omega (arith, c.if-total-cap.false, c.total-total.ensures, cap) in
     let told = c.in-Ok.ensures in
     let sampled = subst (λ t. Sampled t (min plan.cap t) w ranks w' ranks₁) c.total-total.ensures (subst (λ k. Sampled c.total-total.result (min k c.total-total.result) w ranks w' ranks₁) cap told.1) in
     record {
-      within = fitting_within at ranks₁ c.fitting-in-Ok.new.ranks ys c.fitting-in-Ok.new.tickets c.fitting-in-Ok.result c.list-sampled-at.ensures.within fits;
+      within = fitting_within at ranks₁ c.fitting-in-Ok.new.ranks ys c.fitting-in-Ok.new.tickets c.fitting-in-Ok.result c.list_sampled-at.ensures.within fits;
       told = λ counted.
           let ks = drawn plan total memory counted more w w' ranks ranks₁ sampled in
-          let listed = c.list-sampled-at.ensures.told counted ks (drawn_slots plan total memory counted more w w' ranks ranks₁ sampled c.in-Ok.many (omega (arith, told.0, c.total-total.ensures, cap))) (drawn_below plan total memory counted more w w' ranks ranks₁ sampled) in
+          let listed = c.list_sampled-at.ensures.told counted ks (drawn_slots plan total memory counted more w w' ranks ranks₁ sampled c.in-Ok.many (omega (arith, told.0, c.total-total.ensures, cap))) (drawn_below plan total memory counted more w w' ranks ranks₁ sampled) in
           sampled_told plan total memory counted more w w' ranks ranks₁ sampled c.fitting-in-Ok.new.ranks at c.args.tickets.now ys c.fitting-in-Ok.new.tickets c.fitting-in-Ok.result listed fits;
     }

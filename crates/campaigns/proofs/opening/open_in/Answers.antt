@@ -4,14 +4,14 @@ use Rattle.campaigns.proofs.opening.open_in.Goals as goal
 
 pub returns-in-Ok : goal.returns-in-Ok
 returns-in-Ok g c counted =
-    let at = c.in-ok-len.len in
+    let at = c.in_ok-len.len in
     let cases : c.min.result ≡ min c.args.counted.now.plan.cap at = omega (arith, c.min.ensures, c.numbers.ensures.4) in
-    opened c.args.counted.now.plan (g.S.Source.coming c.args.source.now) (g.S.Source.coming c.list-chosen.new.source) (g.S.Source.coming c.shuffle-items.new.source)
-    c.args.ranks.now c.list-chosen.new.ranks c.args.tickets.now c.list-chosen.new.tickets c.shuffle-items.new.items at
-    (c.in-ok-len.ensures.told counted) c.min.result c.in-Ok.ensures cases
+    opened c.args.counted.now.plan (g.S.Source.coming c.args.source.now) (g.S.Source.coming c.list_chosen.new.source) (g.S.Source.coming c.shuffle_items.new.source)
+    c.args.ranks.now c.list_chosen.new.ranks c.args.tickets.now c.list_chosen.new.tickets c.shuffle_items.new.items at
+    (c.in_ok-len.ensures.told counted) c.min.result c.in-Ok.ensures cases
 
 pub returns-in-Err : goal.returns-in-Err
 returns-in-Err g c counted =
-    shuffle_spent c.args.counted.now.plan (g.S.Source.coming c.args.source.now) (g.S.Source.coming c.list-chosen.new.source) (g.S.Source.coming c.shuffle-items.new.source)
-    c.args.ranks.now c.list-chosen.new.ranks c.args.tickets.now c.list-chosen.new.tickets c.shuffle-items.new.items c.in-ok-len.len
-    (c.in-ok-len.ensures.told counted) c.in-Err.refusal c.clear.new.ranks c.clear.new.tickets c.list-chosen.auto.ranks c.in-Err.ensures c.clear.ensures
+    shuffle_spent c.args.counted.now.plan (g.S.Source.coming c.args.source.now) (g.S.Source.coming c.list_chosen.new.source) (g.S.Source.coming c.shuffle_items.new.source)
+    c.args.ranks.now c.list_chosen.new.ranks c.args.tickets.now c.list_chosen.new.tickets c.shuffle_items.new.items c.in_ok-len.len
+    (c.in_ok-len.ensures.told counted) c.in-Err.refusal c.clear.new.ranks c.clear.new.tickets c.list_chosen.auto.ranks c.in-Err.ensures c.clear.ensures
