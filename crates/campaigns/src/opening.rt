@@ -62,7 +62,7 @@ fn list_chosen<S: Source>(
     tickets: &mut [Ticket],
 ) -> Result<usize, Refusal>
     ensures within { listings.ToldWithin result tickets.new }
-    ensures told { Counted counted.now.plan counted.now.total counted.now.memory.now → listings.ChoiceTold counted.now.plan (coming source.old) ranks.old tickets.old result (coming source.new) ranks.new tickets.new }
+    ensures told { Counted counted.now.plan counted.now.total counted.now.memory.now → listings.ChoiceTold counted.now.plan (S.coming source.old) ranks.old tickets.old result (S.coming source.new) ranks.new tickets.new }
 {
     let total = counted.total();
     let cap = counted.numbers().cap;
@@ -93,8 +93,8 @@ fn open_in<S: Source>(
     tickets: &mut [Ticket],
 ) -> Result<usize, Refusal>
     ensures { Counted counted.now.plan counted.now.total counted.now.memory.now → elim result [
-      | Ok cases ↦ openings.OpenedAs counted.now.plan (coming source.old) ranks.old tickets.old cases (coming source.new) ranks.new tickets.new
-      | Err e ↦ openings.OpeningRefused counted.now.plan (coming source.old) ranks.old tickets.old (number_of e) (coming source.new) ranks.new tickets.new
+      | Ok cases ↦ openings.OpenedAs counted.now.plan (S.coming source.old) ranks.old tickets.old cases (S.coming source.new) ranks.new tickets.new
+      | Err e ↦ openings.OpeningRefused counted.now.plan (S.coming source.old) ranks.old tickets.old (number_of e) (S.coming source.new) ranks.new tickets.new
     ] }
 {
     let len = list_chosen(counted, source, ranks, tickets)?;
@@ -116,8 +116,8 @@ pub fn open_campaign<'a, S: Source>(
 ) -> Result<Opened<'a>, OpenRefused<'a>>
     ensures plan { elim result [ Ok v ↦ v.counted ≡ counted.entry | Err e ↦ e.counted ≡ counted.entry ] }
     ensures told { Counted counted.entry.plan counted.entry.total counted.entry.memory.now → elim result [
-      | Ok v ↦ openings.OpenedAs counted.entry.plan (coming source.old) ranks.old tickets.old v.cases (coming source.new) ranks.new v.tickets.now
-      | Err e ↦ openings.OpeningRefused counted.entry.plan (coming source.old) ranks.old tickets.old (number_of e.refusal) (coming source.new) ranks.new e.tickets.now
+      | Ok v ↦ openings.OpenedAs counted.entry.plan (S.coming source.old) ranks.old tickets.old v.cases (S.coming source.new) ranks.new v.tickets.now
+      | Err e ↦ openings.OpeningRefused counted.entry.plan (S.coming source.old) ranks.old tickets.old (number_of e.refusal) (S.coming source.new) ranks.new e.tickets.now
     ] }
 {
     match open_in(&counted, source, ranks, tickets) {

@@ -6,7 +6,7 @@ use crate::name::Name;
 
 // The place of the first name that is the same; the number of names if there is none.
 pub(crate) fn place_of<N: Name>(sender: &N, names: &[N]) -> usize
-    ensures { result ≡ routes.place_of (value sender.now) (map value names.now) }
+    ensures { result ≡ routes.place_of (N.value sender.now) (map N.value names.now) }
 {
     for i in 0..names.len() {
         if names[i].same(sender) {
@@ -18,7 +18,7 @@ pub(crate) fn place_of<N: Name>(sender: &N, names: &[N]) -> usize
 
 // Whether one of the names is the same.
 pub(crate) fn is_listed<N: Name>(sender: &N, names: &[N]) -> bool
-    ensures { result ≡ routes.holds (value sender.now) (map value names.now) }
+    ensures { result ≡ routes.holds (N.value sender.now) (map N.value names.now) }
 {
     place_of(sender, names) < names.len()
 }

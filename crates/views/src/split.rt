@@ -45,8 +45,8 @@ pub fn view_route<N: Name>(
     sender: &N,
     names: &[N],
 ) -> Result<SplitTarget, Refusal>
-    ensures told { splits.SplitRouteTold term view (value sender.now) (map value names.now) result }
-    ensures agrees { splits.SplitAgrees value term view (value sender.now) names.now result }
+    ensures told { splits.SplitRouteTold term view (N.value sender.now) (map N.value names.now) result }
+    ensures agrees { splits.SplitAgrees N.value term view (N.value sender.now) names.now result }
 {
     let cut = cut_of(view, term, names)?;
     let first = is_listed(sender, &names[..cut]);

@@ -5,13 +5,13 @@ use Rattle.views.proofs.Picking.{length_picked_below, put_picked}
 use Rattle.views.proofs.picked.fill.Goals as goal
 
 pub put_if-p-requires : goal.put_if-p-requires
-put_if-p-requires g c κs e =
+put_if-p-requires g c e =
     let below = length_picked_below c.args.round.primary c.args.names.now c.loop-i.i c.mask_contains.result c.loop-i-test.true c.mask_contains.ensures e in
     let at = c.loop-i.invariant.0.place in
     omega arith
 
 pub put_if-s-requires : goal.put_if-s-requires
-put_if-s-requires g c κs e =
+put_if-s-requires g c e =
     let below = length_picked_below c.args.round.secondary c.args.names.now c.loop-i.i c.mask_contains-in-loop-i.result c.loop-i-test.true c.mask_contains-in-loop-i.ensures e in
     let at = c.loop-i.invariant.1.place in
     omega arith
