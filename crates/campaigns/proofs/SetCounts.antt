@@ -7,7 +7,7 @@ use Rattle.scenarios.specs.declared.mode.Mode.TheVariants.{Sampled, Sustained}
 use Rattle.scenarios.specs.declared.plan.Plan.{Plan}
 use Rattle.scenarios.specs.declared.cell.CellState.{CellState}
 use Rattle.scenarios.specs.declared.round.RoundScenario.{RoundScenario}
-use Rattle.scenarios.specs.Cells.{CellsOf, cells, boundaries}
+use Rattle.scenarios.specs.Cells.{CellsOf, cells}
 use Rattle.scenarios.specs.Counting.{Slot}
 use Rattle.scenarios.specs.Plans.{total_of, residual_of}
 use Rattle.scenarios.specs.PlanCounts.{Counted, scenario_fault, ScenarioTold}

@@ -1,20 +1,9 @@
 -- When a stored answer agrees.
-use Rattle.std.specs.Prelude.{ℕ, ◌-◌, Bool, false, not, ◌&&◌, length, is_some, Some, None, Option, ◌==◌, nat_lt}
-use Rattle.scenarios.specs.declared.edge.TransitionEdge.{TransitionEdge}
+use Rattle.std.specs.Prelude.{ℕ, Bool, not, ◌&&◌, length, is_some, ◌==◌, nat_lt}
 use Rattle.scenarios.specs.Cells.{cells}
-use Rattle.scenarios.specs.Edges.{edge_in}
 use Rattle.sets.specs.Answers.{faults_fault}
 use Rattle.sets.specs.Sets.{sets}
 use Rattle.terms.specs.Terms as terms
-
--- there is an edge, to the state `next`, led by the cell `leader`, and it stands for w rounds
-abbrev pub edge_told : Option TransitionEdge → ℕ → ℕ → ℕ → Bool
-edge_told None next leader w = false
-edge_told (Some e) next leader w = e.next.boundaries == next && (e.leader == leader && e.multiplicity == w)
-
--- the state s has as many edges as the count
-abbrev pub edges_told : ℕ → ℕ → ℕ → Bool
-edges_told n s count = nat_lt 0 count && (is_some (edge_in n s (count - 1)) && not (is_some (edge_in n s count)))
 
 -- participants and faults break no rule, and as many sets as the count take a first few of each cell of the state s
 abbrev pub sets_told : ℕ → ℕ → ℕ → ℕ → Bool

@@ -1,11 +1,7 @@
-// Asks again what the Rust module was asked, and compares the answers.
+// Asks again what the Rust module was asked of draws, compromised sets, views and electors, and compares the answers.
 //
 // A line of standard input is a question with the answer that the Rust gave:
 //
-//     total N R M T                  N participants and R rounds have T scenarios in mode M
-//     edges N S C                    the state S of N participants has C edges
-//     edge N S P X L W               its edge P leads to the state X, led by cell L, and stands for W rounds
-//     unrank N R M K ROUND.. | C..   the scenario of rank K has these rounds, and leaves cells of these sizes
 //     sample T K WORDS | RANK..      K ranks below T, in the order drawn, from these words
 //     shuffle N WORDS | I..          the numbers below N, shuffled by these words
 //     splitmix SEED WORD..           the first words of SplitMix64 from this seed
@@ -75,10 +71,6 @@ fn write_tally<W: Write>(out: &mut W, kind: &str, tally: Tally) -> io::Result<()
 }
 
 fn write_tallies<W: Write>(out: &mut W, tallies: &Tallies) -> io::Result<()> {
-    write_tally(out, "total", tallies.total)?;
-    write_tally(out, "edges", tallies.edges)?;
-    write_tally(out, "edge", tallies.edge)?;
-    write_tally(out, "unrank", tallies.unrank)?;
     write_tally(out, "sample", tallies.sample)?;
     write_tally(out, "shuffle", tallies.shuffle)?;
     write_tally(out, "splitmix", tallies.splitmix)?;

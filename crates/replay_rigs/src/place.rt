@@ -1,6 +1,6 @@
 // Asking again for the place of a view in the leader terms.
 ghost use Rattle.std.specs.Prelude.{◌≡◌};
-ghost use Rattle.replay.specs.Told.{place_told};
+ghost use Rattle.replay_rigs.specs.Told.{place_told};
 
 use crate::line::{read_number, read_term};
 use std::str::SplitWhitespace;

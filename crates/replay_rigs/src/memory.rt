@@ -1,12 +1,10 @@
 // Memory that the questions are answered in. It is made once, on the heap because it is too large for the stack.
 use sampling::RankSlot;
-use scenarios::{CellState, Place, RoundScenario, Slot};
+use scenarios::RoundScenario;
 use std::alloc::{AllocError, Global};
 use table::Entry;
 
 // Enough for every question that is stored.
-const SLOTS: usize = 40000;
-
 const RANKS: usize = 4000;
 
 const ITEMS: usize = 256;
@@ -15,10 +13,9 @@ const WORDS: usize = 256;
 
 const ROUNDS: usize = 16;
 
-// Slots to count a plan in, slots for ranks, a list to shuffle, a tape of words, and the rounds of a script.
+// Slots for ranks, a list to shuffle, a tape of words, and the rounds of a script.
 #[derive(Drop)]
 pub(crate) struct Memory {
-    pub(crate) slots: Vec<Slot>,
     pub(crate) ranks: Vec<RankSlot>,
     pub(crate) items: Vec<u64>,
     pub(crate) tape: Vec<u64>,
@@ -36,20 +33,12 @@ fn filled<T: Copy>(heap: Global, slot: T, many: usize) -> Result<Vec<T>, AllocEr
 
 impl Memory {
     pub(crate) fn new(heap: Global) -> Result<Memory, AllocError> {
-        let uncounted = Entry {
-            key: Place {
-                depth: 0,
-                state: CellState::initial(),
-            },
-            value: 0,
-        };
         let nothing = RoundScenario {
             leader: 0,
             primary: 0,
             secondary: 0,
         };
         Ok(Memory {
-            slots: filled(heap, uncounted, SLOTS)?,
             ranks: filled(heap, Entry { key: 0, value: () }, RANKS)?,
             items: filled(heap, 0, ITEMS)?,
             tape: filled(heap, 0, WORDS)?,

@@ -1,6 +1,6 @@
 // Asking again for compromised sets.
 ghost use Rattle.std.specs.Prelude.{◌≡◌};
-ghost use Rattle.replay.specs.Told.{sets_told};
+ghost use Rattle.replay_rigs.specs.Told.{sets_told};
 
 use crate::line::read_number;
 use scenarios::CellState;

@@ -1,16 +1,11 @@
 // How many questions of each kind were asked, and how many answers agree.
 ghost use Rattle.std.specs.Prelude.{◌≡◌};
-ghost use Rattle.replay.specs.Tell as tell;
+ghost use Rattle.replay_rigs.specs.Tell as tell;
 
-// What is asked: a number of scenarios, a number of edges, an edge, or the scenario of a rank; a sample of ranks, a
-// shuffled list, or the words of a seed; a number of compromised sets, or the set of a number; the place of a view, the
-// groups or the target by a script, the groups or the target of a view split, or a leader.
+// What is asked: a sample of ranks, a shuffled list, or the words of a seed; a number of compromised sets, or the set of a
+// number; the place of a view, the groups or the target by a script, the groups or the target of a view split, or a leader.
 #[derive(Clone, Copy)]
 pub(crate) enum Kind {
-    Total,
-    Edges,
-    Edge,
-    Unrank,
     Sample,
     Shuffle,
     SplitMix,
@@ -33,10 +28,6 @@ pub(crate) struct Tally {
 // A tally for each kind.
 #[derive(Clone, Copy)]
 pub(crate) struct Tallies {
-    pub(crate) total: Tally,
-    pub(crate) edges: Tally,
-    pub(crate) edge: Tally,
-    pub(crate) unrank: Tally,
     pub(crate) sample: Tally,
     pub(crate) shuffle: Tally,
     pub(crate) splitmix: Tally,
@@ -76,10 +67,6 @@ impl Tallies {
             agreed: 0,
         };
         Tallies {
-            total: nothing,
-            edges: nothing,
-            edge: nothing,
-            unrank: nothing,
             sample: nothing,
             shuffle: nothing,
             splitmix: nothing,
@@ -99,10 +86,6 @@ impl Tallies {
         ensures { self.new ≡ tell.noted kind agrees self.old }
     {
         match kind {
-            Kind::Total => self.total = self.total.with(agrees),
-            Kind::Edges => self.edges = self.edges.with(agrees),
-            Kind::Edge => self.edge = self.edge.with(agrees),
-            Kind::Unrank => self.unrank = self.unrank.with(agrees),
             Kind::Sample => self.sample = self.sample.with(agrees),
             Kind::Shuffle => self.shuffle = self.shuffle.with(agrees),
             Kind::SplitMix => self.splitmix = self.splitmix.with(agrees),
