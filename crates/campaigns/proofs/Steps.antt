@@ -1,6 +1,6 @@
 -- The steps of an opening, put together: ranks sampled and their tickets listed, then shuffled and cut.
 use Rattle.std.proofs.Common.{◌≡◌, ℕ, ◌+◌, ◌-◌, ◌<◌, ◌≤◌, min, true, List, ◌++◌, map, length, take, drop, replicate, Some, None, Ok, Err, Option, Result, sym, refl, ap, ◌∙◌, subst, inl, inr, arith}
-use Rattle.std.specs.List.{AllByRecursion as All}
+use Rattle.std.specs.List.{AllByRecursion}
 use Rattle.std.proofs.lemmas.List.{length-append, length-drop, length-map, length-take, take_at}
 use Rattle.std.proofs.lemmas.List.Sorted.{length_permutation}
 use Rattle.std.proofs.lemmas.Bool.{lt-ltb, cond-true}
@@ -53,8 +53,8 @@ module _ (p : Plan) (total : ℕ) (memory : List CountSlot) (counted : Counted p
         let m : k - 0 ≡ p.cap = omega arith in
         ap (λ j. take j ranks₁) m ∙ ap (take p.cap) s.ranks ∙ take_at (map slot drawn) (drop p.cap ranks) p.cap length_drawn
 
-    pub drawn_below : All (λ k. k < total) drawn
-    drawn_below = subst (λ t. All (λ k. k < t) drawn) (sym counted.total_is) s.fair.below
+    pub drawn_below : AllByRecursion (λ k. k < total) drawn
+    drawn_below = subst (λ t. AllByRecursion (λ k. k < t) drawn) (sym counted.total_is) s.fair.below
 
     samples_true : samples p ≡ true
     samples_true = lt-ltb p.cap (total_for p) (let e = counted.total_is in omega arith)

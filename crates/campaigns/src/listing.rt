@@ -1,6 +1,6 @@
 // Listing: a ticket for each compromised set of each scenario, written one behind the other into lent memory.
 ghost use Rattle.std.specs.Prelude.{◌≡◌, ℕ, ◌<◌, ◌≤◌, List, ◌++◌, map, length, Some};
-ghost use Rattle.std.specs.List.{range_with_len, AllByRecursion as All};
+ghost use Rattle.std.specs.List.{range_with_len, AllByRecursion};
 ghost use Rattle.sampling.specs.Samples as samples;
 ghost use Rattle.scenarios.specs.PlanCounts.{Counted};
 ghost use Rattle.campaigns.specs.Tickets as listed;
@@ -80,7 +80,7 @@ pub(crate) fn list_sampled(
     tickets: &mut [Ticket],
 ) -> Option<usize>
     ensures within { listings.Within result tickets.new }
-    ensures told { Counted counted.now.plan counted.now.total counted.now.memory.now → (chosen : List ℕ) → ranks.now ≡ map samples.slot chosen → All (λ k. k < counted.now.total) chosen → listings.Listed tickets.old (listed.tickets_of counted.now.plan chosen) result tickets.new }
+    ensures told { Counted counted.now.plan counted.now.total counted.now.memory.now → (chosen : List ℕ) → ranks.now ≡ map samples.slot chosen → AllByRecursion (λ k. k < counted.now.total) chosen → listings.Listed tickets.old (listed.tickets_of counted.now.plan chosen) result tickets.new }
 {
     let mut len = 0;
     for slot in ranks {

@@ -1,6 +1,6 @@
 -- Renamings of legal cases are rearrangements of their columns, and columns tell a legal case.
 use Rattle.std.proofs.Common.{◌≡◌, ℕ, ◌<◌, eqb, ◌↔◌, List, [], ◌∷◌, length, get_or, sym, refl, ap, ◌∙◌, ⊎_elim, arith}
-use Rattle.std.specs.List.{AllZip, AllByRecursion as All}
+use Rattle.std.specs.List.{AllZip, AllByRecursion}
 use Rattle.std.specs.List.Sorted.{IsPermutation}
 use Rattle.std.proofs.lemmas.List.{same_from_push}
 use Rattle.std.proofs.lemmas.List.Sorted.{IsPermutation-refl, IsPermutation-sym, IsPermutation-trans}
@@ -62,13 +62,13 @@ module _ {n : ℕ} (p : Renaming n) where
 
   -- all rounds
 
-  letters_move : (rs ss : List RoundScenario) → All (LegalRound n) rs → AllZip (RoundRenamed p) rs ss → (i : ℕ) → i < n → letters ss (p.to i) ≡ letters rs i
+  letters_move : (rs ss : List RoundScenario) → AllByRecursion (LegalRound n) rs → AllZip (RoundRenamed p) rs ss → (i : ℕ) → i < n → letters ss (p.to i) ≡ letters rs i
   letters_move [] [] l h i hi = refl
   letters_move [] (s ∷ ss) l h i hi = absurd h
   letters_move (r ∷ rs) [] l h i hi = absurd h
   letters_move (r ∷ rs) (s ∷ ss) l h i hi = cc (letter_moves r s l.0.leads h.0 i hi, letters_move rs ss l.1 h.1 i hi)
 
-  rounds_moved : (rs ss : List RoundScenario) → length rs ≡ length ss → All (LegalRound n) rs → ((i : ℕ) → i < n → letters ss (p.to i) ≡ letters rs i) → AllZip (RoundRenamed p) rs ss
+  rounds_moved : (rs ss : List RoundScenario) → length rs ≡ length ss → AllByRecursion (LegalRound n) rs → ((i : ℕ) → i < n → letters ss (p.to i) ≡ letters rs i) → AllZip (RoundRenamed p) rs ss
   rounds_moved [] [] e l h = tt
   rounds_moved [] (s ∷ ss) e l h = omega arith
   rounds_moved (r ∷ rs) [] e l h = omega arith
@@ -116,7 +116,7 @@ renaming_relates mode n f R = record {
 
 -- columns tell a legal case
 
-same_rounds : (n : ℕ) (rs ss : List RoundScenario) → All (LegalRound n) rs → All (LegalRound n) ss → AllZip (RoundRenamed (stays n)) rs ss → rs ≡ ss
+same_rounds : (n : ℕ) (rs ss : List RoundScenario) → AllByRecursion (LegalRound n) rs → AllByRecursion (LegalRound n) ss → AllZip (RoundRenamed (stays n)) rs ss → rs ≡ ss
 unfolding stays
 same_rounds n [] [] lr ls h = refl
 same_rounds n [] (s ∷ ss) lr ls h = absurd h

@@ -1,6 +1,6 @@
 -- Each legal case is a renaming of the case of exactly one rank and set number.
 use Rattle.std.proofs.Common.{◌≡◌, ℕ, zero, suc, ◌<◌, ◌↔◌, List, [], ◌∷◌, length, replicate, sym, ap, ◌∙◌, subst, arith}
-use Rattle.std.specs.List.{AllByRecursion as All}
+use Rattle.std.specs.List.{AllByRecursion}
 use Rattle.std.proofs.ByRecursion.{All-append}
 use Rattle.scenarios.specs.declared.mode.Mode.{Mode}
 use Rattle.scenarios.specs.declared.mode.Mode.TheVariants.{Sampled, Sustained}
@@ -27,15 +27,15 @@ use Rattle.cases.proofs.Bridge.{few_by_rounds, few_by_sizes}
 -- the residual cells in each mode
 
 module _ {X : Type 0} (P : X → Type 0) where
-  all_replicate : (R : ℕ) (x : X) → P x → All P (replicate R x)
+  all_replicate : (R : ℕ) (x : X) → P x → AllByRecursion P (replicate R x)
   all_replicate zero x h = tt
   all_replicate (suc R) x h = (h, all_replicate R x h)
 
-  replicate_all : (R : ℕ) (x : X) → 0 < R → All P (replicate R x) → P x
+  replicate_all : (R : ℕ) (x : X) → 0 < R → AllByRecursion P (replicate R x) → P x
   replicate_all zero x l h = absurd (omega arith)
   replicate_all (suc R) x l h = h.0
 
-all_repeated : (P : RoundScenario → Type 0) (R : ℕ) (rs : List RoundScenario) → 0 < R → All P rs ↔ All P (repeated R rs)
+all_repeated : (P : RoundScenario → Type 0) (R : ℕ) (rs : List RoundScenario) → 0 < R → AllByRecursion P rs ↔ AllByRecursion P (repeated R rs)
 all_repeated P R [] l = (λ h. h, λ h. h)
 all_repeated P R (r ∷ rs) l =
     let rest = all_repeated P R rs l in (

@@ -1,7 +1,7 @@
 -- Every list has exactly one sorted rearrangement.
 use Rattle.std.proofs.Common.{◌≡◌, ℕ, zero, suc, ◌+◌, ◌<◌, ◌≤◌, cond, eqb, ◌≢◌, ◌⊎◌, List, [], ◌∷◌, length, get_or, sym, refl, ap, ◌∙◌, subst, inl, inr, ⊎_elim, add-one, arith}
 use native.Mathlib.Decide.{le_ind}
-use Rattle.std.specs.List.{swap as exchanged, AllByRecursion as All}
+use Rattle.std.specs.List.{swap as exchanged, AllByRecursion}
 use Rattle.std.specs.List as holes
 use Rattle.std.specs.List.Sorted.{IsPermutation}
 use Rattle.std.proofs.lemmas.List.{same_lists}
@@ -173,7 +173,7 @@ module _ {X : Type 0} (R : X → X → Type 0) (o : Order R) where
 
   abbrev Pairwise : List X → Type 0
   Pairwise [] = Unit {0}
-  Pairwise (x ∷ xs) = All (R x) xs × Pairwise xs
+  Pairwise (x ∷ xs) = AllByRecursion (R x) xs × Pairwise xs
 
   Inserted : X → List X → Type 0
   Inserted x ys = (zs : List X) × IsPermutation (x ∷ ys) zs × Pairwise zs

@@ -8,7 +8,7 @@
 --
 -- They take M of the numbers 1 to N; here the numbers are 0 to N − 1, so T and J are one less.
 use Rattle.std.specs.Prelude.{◌≡◌, ℕ, ◌+◌, ◌-◌, ◌<◌, true, false, cond, ◌≢◌, ◌⊎◌, List, [], ◌∷◌, ◌++◌, length, take, slice_index}
-use Rattle.std.specs.List.{range_with_len, AllByRecursion as All}
+use Rattle.std.specs.List.{range_with_len, AllByRecursion}
 use Rattle.orders.specs.Members.{member}
 
 -- the bounds of the draws for a sample of m of the numbers below n
@@ -32,7 +32,7 @@ sample n ts = inserting [] (n - length ts) ts
 -- the number drawn, unless that is among those before it; then it is the bound
 pub record Sample (n : ℕ) (ts s : List ℕ) : Type 0 where
   pub as_many : length s ≡ length ts
-  pub below : All (λ x. x < n) s
+  pub below : AllByRecursion (λ x. x < n) s
   pub different : (i j : ℕ) → i < j → j < length s → slice_index s i ≢ slice_index s j
   pub each : (i : ℕ) → i < length ts
       → ((member (take i s) (slice_index ts i) ≡ false) × (slice_index s i ≡ slice_index ts i))

@@ -1,6 +1,6 @@
 -- Rounds read one after the other: legal, in order so far, and the state that they leave.
 use Rattle.std.proofs.Common.{◌≡◌, ℕ, zero, suc, ◌+◌, ◌-◌, ◌^◌, ◌<◌, ◌≤◌, Bool, true, false, not, ltb, List, [], ◌∷◌, ◌++◌, map, length, get_or, take, drop, sym, ap, ◌∙◌, subst, arith}
-use Rattle.std.specs.List.{range_with_len, AllByRecursion as All}
+use Rattle.std.specs.List.{range_with_len, AllByRecursion}
 use Rattle.std.proofs.lemmas.List.{take_more, drop_more, take-append-drop, append_assoc, append-nil, take_all}
 use Rattle.std.proofs.ByRecursion.{All-push, All-get_or}
 use Rattle.std.proofs.lemmas.Bool.{lt-ltb, le-ltb, cond-true, cond-false, false≢true}
@@ -26,7 +26,7 @@ follows_push n before (x ∷ xs) r f h =
 -- what holds after i rounds
 pub record Read (n : ℕ) (rs : List RoundScenario) (i s : ℕ) : Type 0 where
   pub below : s < 2 ^ (n - 1)
-  pub legal : All (LegalRound n) (take i rs)
+  pub legal : AllByRecursion (LegalRound n) (take i rs)
   pub follows : Follows n [] (take i rs)
   pub tied : Tied n (cells n s) (take i rs)
 
@@ -37,14 +37,14 @@ module _ (n : ℕ) (h : 0 < n) (rs : List RoundScenario) (i s : ℕ) (so : Read 
       let grows : take i rs ++ (round t k ∷ []) ≡ take (i + 1) rs = ap (λ r. take i rs ++ (r ∷ [])) e ∙ sym (take_more rs i d l) in
       record {
         below = subst (λ x. x < 2 ^ (n - 1)) q (boundaries_below n (after t) h st.cells);
-        legal = subst (All (LegalRound n)) grows (All-push (LegalRound n) (take i rs) (round t k) so.legal st.legal);
+        legal = subst (AllByRecursion (LegalRound n)) grows (All-push (LegalRound n) (take i rs) (round t k) so.legal st.legal);
         follows = subst (Follows n []) grows (follows_push n [] (take i rs) (round t k) so.follows (λ j lj tg. st.ordered j lj ((so.tied j lj).1 tg)));
         tied = subst (λ c. Tied n c (take (i + 1) rs)) (sym (cells_boundaries n (after t) h st.cells) ∙ ap (cells n) q)
             (subst (Tied n (after t)) grows (tied_step n (cells n s) t k (take i rs) st so.tied));
       }
 
   -- a round that is not legal, or not in order, is not of a canonical scenario
-  pub read_none : (LegalRound n (get_or rs i d) → Ordered n (cells n s) (get_or rs i d) → ⊥) → All (LegalRound n) rs → Canonical n rs → ⊥
+  pub read_none : (LegalRound n (get_or rs i d) → Ordered n (cells n s) (get_or rs i d) → ⊥) → AllByRecursion (LegalRound n) rs → Canonical n rs → ⊥
   read_none no' legal canonical =
       let split : rs ≡ take i rs ++ (get_or rs i d ∷ drop (i + 1) rs) = sym (take-append-drop i rs) ∙ ap (λ x. take i rs ++ x) (drop_more rs i d l) in
       no' (All-get_or (LegalRound n) rs i d l legal)
@@ -88,10 +88,10 @@ inner_cells n s i h =
     let e : i ≡ 1 - 1 + i = omega arith in
     ap (inner (cut 1 flags)) e ∙ inner_cut 1 flags i (omega arith) (omega arith) ∙ ap not g
 
-pub read_all : (n i s : ℕ) (rs : List RoundScenario) → length rs ≤ i → Read n rs i s → All (LegalRound n) rs × Canonical n rs × Residual n rs s
+pub read_all : (n i s : ℕ) (rs : List RoundScenario) → length rs ≤ i → Read n rs i s → AllByRecursion (LegalRound n) rs × Canonical n rs × Residual n rs s
 read_all n i s rs h so =
     let e = take_all i rs h in (
-      subst (All (LegalRound n)) e so.legal,
+      subst (AllByRecursion (LegalRound n)) e so.legal,
       canonical_to n rs (subst (Follows n []) e so.follows),
       record {
         below = so.below;

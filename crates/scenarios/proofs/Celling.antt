@@ -1,6 +1,6 @@
 -- One cell of a turn: its word, by its split and the number of its letters, and back. Assumes nothing.
 use Rattle.std.proofs.Common.{◌≡◌, ℕ, suc, ◌+◌, ◌-◌, ◌*◌, ◌/◌, ◌%◌, ◌<◌, ◌≤◌, Bool, true, false, ◌⊎◌, List, [], ◌∷◌, ◌++◌, length, get_or, take, sym, refl, ap, ◌∙◌, subst, inl, inr, arith}
-use Rattle.std.specs.List.{AllByRecursion as All}
+use Rattle.std.specs.List.{AllByRecursion}
 use Rattle.std.proofs.lemmas.Bool.{true≢false, false≢true, cases_lt}
 use Rattle.std.proofs.lemmas.List.{length_push, get_or_push, same_from_push, take_more, take_all, get_or-take, length-take-le}
 use Rattle.std.proofs.ByRecursion.{All-get_or, All-from_get_or, All-append}
@@ -49,7 +49,7 @@ module _ (b : Bool) (c : ℕ) (ps : List ℕ) (d : ℕ) (s : Split b c ps) (h : 
   pub cell_lays : Lays (c ∷ []) ps (spell ps (tones b ps d))
   cell_lays = spell_lays 0 8 c ps (tones b ps d) s.filled (length_tones b c ps d s h) (tones_upwards b ps d) s.whole
 
-pub low_cell : (b : Bool) (ps : List ℕ) (d : ℕ) → b ≡ false → All (λ x. x < 4) (spell ps (tones b ps d))
+pub low_cell : (b : Bool) (ps : List ℕ) (d : ℕ) → b ≡ false → AllByRecursion (λ x. x < 4) (spell ps (tones b ps d))
 low_cell true ps d e = absurd (true≢false e)
 low_cell false ps d e = climbs_below 0 4 _ (spell_climbs 0 4 ps (subset (free false ps) d) (upwards_subset (free false ps) d))
 
@@ -81,7 +81,7 @@ proper_cell true c ps d e s h = subst (λ w. Proper (c - 1) w) (sym word) (subst
     even : length qs ≡ length xs
     even = length-take-le (length ps - 1) ps (omega arith) ∙ sym (length_subset (free true ps) (d / 3) (omega arith))
 
-    low : All (λ x. x < 4) (spell qs xs)
+    low : AllByRecursion (λ x. x < 4) (spell qs xs)
     low = climbs_below 0 4 _ (spell_climbs 0 4 qs xs (upwards_subset (free true ps) (d / 3)))
 
     word : spell ps (xs ++ (y ∷ [])) ≡ spell qs xs ++ (y ∷ [])
@@ -97,11 +97,11 @@ same_led true true c ps ps' d d' s s' h h' e = refl
 same_led false false c ps ps' d d' s s' h h' e = refl
 same_led true false c ps ps' d d' s s' h h' e =
     let p = proper_cell true c ps d refl s h in
-    let low = All-get_or (λ x. x < 4) (spell ps (tones true ps d)) (c - 1) 0 p.leads (subst (λ w. All (λ x. x < 4) w) (sym e) (low_cell false ps' d' refl)) in
+    let low = All-get_or (λ x. x < 4) (spell ps (tones true ps d)) (c - 1) 0 p.leads (subst (λ w. AllByRecursion (λ x. x < 4) w) (sym e) (low_cell false ps' d' refl)) in
     absurd (omega arith)
 same_led false true c ps ps' d d' s s' h h' e =
     let p = proper_cell true c ps' d' refl s' h' in
-    let low = All-get_or (λ x. x < 4) (spell ps' (tones true ps' d')) (c - 1) 0 p.leads (subst (λ w. All (λ x. x < 4) w) e (low_cell false ps d refl)) in
+    let low = All-get_or (λ x. x < 4) (spell ps' (tones true ps' d')) (c - 1) 0 p.leads (subst (λ w. AllByRecursion (λ x. x < 4) w) e (low_cell false ps d refl)) in
     absurd (omega arith)
 
 pub cell_apart : (b : Bool) (c : ℕ) (ps ps' : List ℕ) (d d' : ℕ) → Split b c ps → Split b c ps' → d < ways b ps → d' < ways b ps' → spell ps (tones b ps d) ≡ spell ps' (tones b ps' d') → (ps ≡ ps') × (d ≡ d')

@@ -1,6 +1,6 @@
 -- The splits of one cell: which they are, and the walk over them.
 use Rattle.std.proofs.Common.{◌≡◌, ℕ, zero, suc, ◌+◌, ◌-◌, ◌<◌, ◌≤◌, min, Bool, true, false, cond, ltb, leb, ◌⊎◌, List, [], ◌∷◌, ◌++◌, map, length, take, Some, None, Option, sym, refl, ap, ◌∙◌, subst, inl, inr, arith}
-use Rattle.std.specs.List.{range_with_len, AllByRecursion as All}
+use Rattle.std.specs.List.{range_with_len, AllByRecursion}
 use Rattle.std.proofs.lemmas.List.{map-id, take_at, take_all, take_more, length_push, get_or_push}
 use Rattle.std.proofs.ByRecursion.{All-push, All-take}
 use Rattle.std.proofs.lemmas.Bool.{cases_eq, eq-eqb, ne_eqb, lt-ltb, le-leb, cond-true, false≢true}
@@ -13,7 +13,7 @@ use Rattle.scenarios.proofs.Composing.{through, raised, grown, through_cond, nex
 use Rattle.scenarios.proofs.Chains.{In, map_in, in_map, joined_in, in_joined, in_counting, counting_in, first_or_some, first_map, Chain, Walk, chain_map, walk_counting, chain_next_in, first_in}
 
 abbrev pub Filled : List ℕ → Type 0
-Filled ps = All (λ p. 0 < p) ps
+Filled ps = AllByRecursion (λ p. 0 < p) ps
 
 pub length_filled : (ps : List ℕ) → Filled ps → length ps ≤ total ps
 length_filled [] h = omega arith

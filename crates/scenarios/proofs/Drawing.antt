@@ -1,6 +1,6 @@
 -- Drawing a round: by the parts of a cell, and by the cells of a turn.
 use Rattle.std.proofs.Common.{◌≡◌, ℕ, zero, suc, ◌+◌, ◌-◌, ◌*◌, ◌/◌, ◌%◌, ◌^◌, ◌<◌, ◌≤◌, Bool, true, false, cond, eqb, List, [], ◌∷◌, ◌++◌, map, length, get_or, take, drop, replicate, sym, refl, ap, ◌∙◌, subst, arith}
-use Rattle.std.specs.List.{AllByRecursion as All}
+use Rattle.std.specs.List.{AllByRecursion}
 use Rattle.std.proofs.lemmas.List.{take_more, drop_more, length-take, length-take-le, length-map, get_or-map, get_or-take, map_push, append-nil, length-replicate, drop_all}
 use Rattle.std.proofs.lemmas.Bool.{eq-eqb, ne_eqb}
 use Rattle.std.proofs.ByRecursion.{All-get_or}
@@ -173,7 +173,7 @@ ranges_at start (c ∷ cs) zero h = ap (λ s. (s, c)) (let e : start ≡ start +
 ranges_at start (c ∷ cs) (suc i) h = ranges_at (start + c) cs i (omega arith) ∙ ap (λ s. (s, get_or cs i 0)) (let e : start + c + total (take i cs) ≡ start + (c + total (take i cs)) = omega arith in e)
 
 -- the leader is the last member of its cell
-pub fill_leader : (l i : ℕ) (cs : List ℕ) (f : List (List ℕ)) (d j : ℕ) → Fills l i cs f → All (λ c. 0 < c) cs → l ≡ i + j → j < length cs → d < weight_from l i f
+pub fill_leader : (l i : ℕ) (cs : List ℕ) (f : List (List ℕ)) (d j : ℕ) → Fills l i cs f → AllByRecursion (λ c. 0 < c) cs → l ≡ i + j → j < length cs → d < weight_from l i f
     → Proper (total (take j cs) + get_or cs j 0 - 1) (letters_from l i f d)
 fill_leader l i [] f d j s a e b h = absurd (omega arith)
 fill_leader l i (c ∷ cs) [] d j s a e b h = absurd s

@@ -1,7 +1,7 @@
 -- The edge at which a walk stands, summed up cell by cell.
 use Rattle.std.proofs.Common.{◌≡◌, ℕ, ◌+◌, ◌-◌, ◌*◌, ◌%◌, ◌^◌, ◌<◌, ◌≤◌, eqb, List, [], ◌++◌, length, get_or, take, sym, refl, ap, ◌∙◌, subst, arith}
 use lib.Bits.{bit_and}
-use Rattle.std.specs.List.{flat_map, AllByRecursion as All}
+use Rattle.std.specs.List.{flat_map, AllByRecursion}
 use Rattle.std.proofs.lemmas.Nat.{and_mask, one_shl}
 use Rattle.std.proofs.lemmas.List.{take_more, take_all, flat_map_more}
 use Rattle.std.proofs.ByRecursion.{All-append}
@@ -22,7 +22,7 @@ front e i = flat_map (λ ps. ps) (take i (turn_at e).fill)
 
 pub record Summed (e : Edges) (i mask multiplicity : ℕ) : Type 0 where
   pub whole : total (front e i) ≡ total (take i (cells_at e))
-  pub filled : All (λ p. 0 < p) (front e i)
+  pub filled : AllByRecursion (λ p. 0 < p) (front e i)
   pub ended : mask ≡ ends (front e i)
   pub weighs : multiplicity ≡ weight_from e.leader 0 (take i (turn_at e).fill)
 
@@ -52,7 +52,7 @@ module _ (e : Edges) (w : Walking e) (i mask multiplicity : ℕ) (s : Summed e i
           whole =
               ap total grows ∙ total_append (front e i) (sizes (split_of e i)) ∙ ap (λ x. x + total (sizes (split_of e i))) s.whole
               ∙ ap (λ x. total (take i (cells_at e)) + x) split.whole ∙ sym (total_more (cells_at e) i (omega (arith, length_cells e w)));
-          filled = subst (All (λ p. 0 < p)) (sym grows) (All-append (λ p. 0 < p) (front e i) (sizes (split_of e i)) s.filled split.filled);
+          filled = subst (AllByRecursion (λ p. 0 < p)) (sym grows) (All-append (λ p. 0 < p) (front e i) (sizes (split_of e i)) s.filled split.filled);
           ended =
               m ∙ ap (λ x. x + 2 ^ total (take i (cells_at e)) * ends (sizes (split_of e i))) s.ended
               ∙ ap (λ x. ends (front e i) + 2 ^ x * ends (sizes (split_of e i))) (sym s.whole)

@@ -1,6 +1,6 @@
 -- The last participants of parts, set bit by bit.
 use Rattle.std.proofs.Common.{◌≡◌, ℕ, ◌+◌, ◌-◌, ◌*◌, ◌^◌, ◌<◌, ◌≤◌, List, [], ◌∷◌, ◌++◌, length, get_or, take, sym, ap, ◌∙◌, subst, mul-add, arith, pow_mono}
-use Rattle.std.specs.List.{AllByRecursion as All}
+use Rattle.std.specs.List.{AllByRecursion}
 use Rattle.std.proofs.lemmas.Nat.{pow-add}
 use Rattle.std.proofs.lemmas.List.{take_more, take-take, get_or-take, length-take-le}
 use Rattle.std.proofs.ByRecursion.{All-get_or}
@@ -32,7 +32,7 @@ pub record EndStep (mask start : ℕ) (parts : List ℕ) (j end out : ℕ) : Typ
   pub more : out + (2 ^ 1 - 1) * 2 ^ (end + get_or parts j 0 - 1) ≡ mask + 2 ^ start * ends (take (j + 1) parts)
   pub still : out + (2 ^ 1 - 1) * 2 ^ (end + get_or parts j 0 - 1) < 2 ^ (end + get_or parts j 0)
 
-pub end_step : (mask start : ℕ) (parts : List ℕ) (len j end out : ℕ) → len ≤ length parts → j < len → All (λ p. 0 < p) (take len parts) → start + total (take len parts) ≤ 64
+pub end_step : (mask start : ℕ) (parts : List ℕ) (len j end out : ℕ) → len ≤ length parts → j < len → AllByRecursion (λ p. 0 < p) (take len parts) → start + total (take len parts) ≤ 64
     → end ≡ start + total (take j parts) → out ≡ mask + 2 ^ start * ends (take j parts) → out < 2 ^ end → EndStep mask start parts j end out
 end_step mask start parts len j end out long h filled fits e o b =
     let p : ℕ = get_or parts j 0 in

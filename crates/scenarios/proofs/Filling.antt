@@ -1,6 +1,6 @@
 -- The step to the next splits of all cells, from the last cell back to the first.
 use Rattle.std.proofs.Common.{◌≡◌, ℕ, zero, suc, ◌+◌, ◌-◌, ◌<◌, ◌≤◌, eqb, List, [], ◌∷◌, ◌++◌, map, length, get_or, take, drop, set, Some, None, Option, sym, refl, ap, ◌∙◌, subst, arith}
-use Rattle.std.specs.List.{AllByRecursion as All}
+use Rattle.std.specs.List.{AllByRecursion}
 use Rattle.std.proofs.lemmas.List.{take_more_set, map_push, length-map, drop_all, append-nil, take_all, drop_more, take_more, append_assoc, set_at, length-take-le, get_or_at, map-set, get_or-map, get_or-take}
 use Rattle.std.proofs.ByRecursion.{All-set, All-get_or, All-push}
 use Rattle.scenarios.specs.declared.refinement.LocalRefinement.{LocalRefinement}
@@ -75,7 +75,7 @@ abbrev pub no_split : LocalRefinement
 no_split = record { parts = []; len = 0 }
 
 abbrev pub Short : ℕ → List LocalRefinement → Type 0
-Short k rs = All (λ r. r.len ≤ 5) (take k rs)
+Short k rs = AllByRecursion (λ r. r.len ≤ 5) (take k rs)
 
 -- the cells from i on have no next splits, and stand at their first again
 pub record Back (l cells : ℕ) (cs : List ℕ) (old rs : List LocalRefinement) (i : ℕ) : Type 0 where
@@ -93,7 +93,7 @@ pub fill_long : (cells : ℕ) (rs : List LocalRefinement) → cells ≤ length r
 fill_long cells rs b = length-map (take cells rs) sizes ∙ length-take-le cells rs b
 
 pub short_set : (cells : ℕ) (rs : List LocalRefinement) (i : ℕ) (r : LocalRefinement) → Short cells rs → r.len ≤ 5 → Short cells (set rs i r)
-short_set cells rs i r s h = subst (All (λ x. x.len ≤ 5)) (sym (take_set_in cells rs i r)) (All-set (λ x. x.len ≤ 5) (take cells rs) i r h s)
+short_set cells rs i r s h = subst (AllByRecursion (λ x. x.len ≤ 5)) (sym (take_set_in cells rs i r)) (All-set (λ x. x.len ≤ 5) (take cells rs) i r h s)
 
 module _ (l cells : ℕ) (ranges : List (ℕ × ℕ)) (old rs : List LocalRefinement) (i : ℕ)
     (room : cells ≤ length ranges) (room' : cells ≤ length old) (room'' : cells ≤ length rs) (h : i < cells)
@@ -160,7 +160,7 @@ back_up l cells cs old rs i h b = subst (Back l cells cs old rs) (let e : i ≡ 
 pub back_all : (l cells : ℕ) (cs : List ℕ) (old rs : List LocalRefinement) (i : ℕ) → i ≤ 0 → Back l cells cs old rs i → next_fill l 0 cs (fill_of cells old) ≡ None
 back_all l cells cs old rs i h b = subst (λ k. next_fill l k (drop k cs) (drop k (fill_of cells old)) ≡ None) (let e : i ≡ 0 = omega arith in e) b.none
 
-pub size_small : (cells : ℕ) (ranges : List (ℕ × ℕ)) (i : ℕ) → i < cells → cells ≤ length ranges → All (λ c. (0 < c) × (c ≤ 64)) (sizes_in cells ranges)
+pub size_small : (cells : ℕ) (ranges : List (ℕ × ℕ)) (i : ℕ) → i < cells → cells ≤ length ranges → AllByRecursion (λ c. (0 < c) × (c ≤ 64)) (sizes_in cells ranges)
     → (0 < (get_or ranges i (0, 0)).1) × ((get_or ranges i (0, 0)).1 ≤ 64)
 size_small cells ranges i h b s =
     let l = sizes_long cells ranges b in
@@ -199,8 +199,8 @@ module _ (l cells : ℕ) (ranges : List (ℕ × ℕ)) (rs : List LocalRefinement
       ∙ ap (λ x. take i F ++ (x ∷ [])) q
       ∙ sym (take_more F i [] (omega arith))
 
-  pub first_short : All (λ x. x.len ≤ 5) (take i rs) → r.len ≤ 5 → All (λ x. x.len ≤ 5) (take (i + 1) (set rs i r))
-  first_short s b = subst (All (λ x. x.len ≤ 5)) (sym (take_more_set rs i r h')) (All-push (λ x. x.len ≤ 5) (take i rs) r s b)
+  pub first_short : AllByRecursion (λ x. x.len ≤ 5) (take i rs) → r.len ≤ 5 → AllByRecursion (λ x. x.len ≤ 5) (take (i + 1) (set rs i r))
+  first_short s b = subst (AllByRecursion (λ x. x.len ≤ 5)) (sym (take_more_set rs i r h')) (All-push (λ x. x.len ≤ 5) (take i rs) r s b)
 
 pub first_all : (l cells : ℕ) (ranges : List (ℕ × ℕ)) (rs : List LocalRefinement) (i : ℕ) → cells ≤ length ranges → i ≡ cells
     → fill_of i rs ≡ take i (first_fill l 0 (sizes_in cells ranges)) → fill_of cells rs ≡ first_fill l 0 (sizes_in cells ranges)

@@ -1,6 +1,6 @@
 -- A round and its letters determine each other, and the letters say what is in order and what is alike. Assumes nothing.
 use Rattle.std.proofs.Common.{◌≡◌, ℕ, zero, suc, ◌+◌, ◌-◌, ◌^◌, ◌<◌, ◌≤◌, Bool, true, false, cond, ◌||◌, eqb, ltb, ◌≢◌, ◌⊎◌, List, [], ◌∷◌, ◌++◌, map, length, get_or, sym, refl, ap, ◌∙◌, subst, inl, inr, arith}
-use Rattle.std.specs.List.{prefix_len, AllByRecursion as All}
+use Rattle.std.specs.List.{prefix_len, AllByRecursion}
 use Rattle.std.proofs.lemmas.Bool.{cases_eq, cases_lt, eq-eqb, ne_eqb, lt-ltb, le-ltb, cond-true, cond-false}
 use Rattle.std.proofs.lemmas.List.{same_lists, length-map, length-append, get_or-map, get_or_append_left, get_or-append_right, get_or_default}
 use Rattle.std.proofs.ByRecursion.{All-get_or}
@@ -106,7 +106,7 @@ pub record Proper (k : ℕ) (ls : List ℕ) : Type 0 where
   pub below : get_or ls k 0 < 8
   pub others : (i : ℕ) → i < length ls → i ≢ k → get_or ls i 0 < 4
 
-pub proper_left : (k : ℕ) (xs ys : List ℕ) → Proper k xs → All (λ x. x < 4) ys → Proper k (xs ++ ys)
+pub proper_left : (k : ℕ) (xs ys : List ℕ) → Proper k xs → AllByRecursion (λ x. x < 4) ys → Proper k (xs ++ ys)
 proper_left k xs ys p low = record { leads = omega (arith, len, p.leads); loud = rw here p.loud; below = rw here p.below; others = λ i l ne. go i l ne (cases_lt i (length xs)) }
   where
     len : length (xs ++ ys) ≡ length xs + length ys
@@ -119,7 +119,7 @@ proper_left k xs ys p low = record { leads = omega (arith, len, p.leads); loud =
     go i l ne (inl h) = rw (get_or_append_left xs ys 0 i h) (p.others i h ne)
     go i l ne (inr h) = rw (get_or-append_right xs ys (length xs) i 0 refl h) (All-get_or (λ x. x < 4) ys (i - length xs) 0 (omega (arith, len)) low)
 
-pub proper_right : (k : ℕ) (xs ys : List ℕ) → All (λ x. x < 4) xs → Proper k ys → Proper (length xs + k) (xs ++ ys)
+pub proper_right : (k : ℕ) (xs ys : List ℕ) → AllByRecursion (λ x. x < 4) xs → Proper k ys → Proper (length xs + k) (xs ++ ys)
 proper_right k xs ys low p = record { leads = omega (arith, len, p.leads); loud = rw here p.loud; below = rw here p.below; others = λ i l ne. go i l ne (cases_lt i (length xs)) }
   where
     len : length (xs ++ ys) ≡ length xs + length ys

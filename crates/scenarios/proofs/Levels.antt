@@ -1,6 +1,6 @@
 -- The places of all depths, one depth after the other.
 use Rattle.std.proofs.Common.{◌≡◌, ℕ, zero, suc, ◌+◌, ◌-◌, ◌<◌, ◌≤◌, true, false, ◌&&◌, ◌||◌, eqb, ◌⊎◌, List, [], ◌∷◌, ◌++◌, map, length, get_or, sym, refl, ap, ◌∙◌, subst, inl, inr, arith}
-use Rattle.std.specs.List.{range_with_len, flat_map, AllByRecursion as All}
+use Rattle.std.specs.List.{range_with_len, flat_map, AllByRecursion}
 use Rattle.std.proofs.lemmas.List.{append_assoc, append-nil, length-append, map_push, get_or_append_left, get_or-append_right}
 use Rattle.std.proofs.ByRecursion.{All-append, All-map, All-get_or, All-weaker}
 use Rattle.std.proofs.lemmas.Bool.{cases_Bool, cases_lt, ne_eqb, eq-eqb, and_left}
@@ -23,14 +23,14 @@ member_level : (d x : ℕ) (seen : List ℕ) → member same_place (place d x) (
 member_level d x [] = refl
 member_level d x (y ∷ ys) = let e = eq-eqb d d refl in λ i. (e i && eqb y x) || member_level d x ys i
 
-member_lower : (ps : List Place) (d x : ℕ) (qs : List Place) → All (λ p. p.depth < d) ps → member same_place (place d x) (ps ++ qs) ≡ member same_place (place d x) qs
+member_lower : (ps : List Place) (d x : ℕ) (qs : List Place) → AllByRecursion (λ p. p.depth < d) ps → member same_place (place d x) (ps ++ qs) ≡ member same_place (place d x) qs
 member_lower [] d x qs h = refl
 member_lower (p ∷ ps) d x qs h =
     let e = ne_eqb p.depth d (λ q. let l = h.0 in omega arith) in
     let s = and_left (eqb p.depth d) (eqb p.state.boundaries x) e in
     λ i. s i || member_lower ps d x qs h.1 i
 
-note_level : (ps : List Place) (d : ℕ) (seen : List ℕ) (x : ℕ) → All (λ p. p.depth < d) ps → note same_place (ps ++ map (place d) seen) (place d x) ≡ ps ++ map (place d) (note eqb seen x)
+note_level : (ps : List Place) (d : ℕ) (seen : List ℕ) (x : ℕ) → AllByRecursion (λ p. p.depth < d) ps → note same_place (ps ++ map (place d) seen) (place d x) ≡ ps ++ map (place d) (note eqb seen x)
 note_level ps d seen x h = go (cases_Bool (member eqb x seen))
   where
     same : member same_place (place d x) (ps ++ map (place d) seen) ≡ member eqb x seen
@@ -42,7 +42,7 @@ note_level ps d seen x h = go (cases_Bool (member eqb x seen))
         note_new same_place (ps ++ map (place d) seen) (place d x) (same ∙ e) ∙ append_assoc ps (map (place d) seen) (place d x ∷ [])
         ∙ ap (λ l. ps ++ l) (sym (map_push (place d) seen x)) ∙ ap (λ l. ps ++ map (place d) l) (sym (note_new eqb seen x e))
 
-pub noted_level : (ps : List Place) (d : ℕ) (seen xs : List ℕ) → All (λ p. p.depth < d) ps → noted same_place (ps ++ map (place d) seen) (map (place d) xs) ≡ ps ++ map (place d) (noted eqb seen xs)
+pub noted_level : (ps : List Place) (d : ℕ) (seen xs : List ℕ) → AllByRecursion (λ p. p.depth < d) ps → noted same_place (ps ++ map (place d) seen) (map (place d) xs) ≡ ps ++ map (place d) (noted eqb seen xs)
 noted_level ps d seen [] h = refl
 noted_level ps d seen (x ∷ xs) h = ap (λ l. noted same_place l (map (place d) xs)) (note_level ps d seen x h) ∙ noted_level ps d (note eqb seen x) xs h
 
@@ -58,16 +58,16 @@ places_more n d =
     let e : 0 + d ≡ d = omega arith in
     ap (flat_map f) (counting_push 0 d) ∙ joined_append f (range_with_len 0 d) ((0 + d) ∷ []) ∙ ap (λ l. flat_map f (range_with_len 0 d) ++ l) (append-nil (f (0 + d)) ∙ ap f e)
 
-pub before_depth : (n d : ℕ) → All (λ p. p.depth < d) (places_before n d)
+pub before_depth : (n d : ℕ) → AllByRecursion (λ p. p.depth < d) (places_before n d)
 before_depth n zero = tt
 before_depth n (suc d) =
-    let P : List Place → Type 0 = λ ps. All (λ p. p.depth < suc d) ps in
+    let P : List Place → Type 0 = λ ps. AllByRecursion (λ p. p.depth < suc d) ps in
     subst P (sym (places_more n d))
     (All-append (λ p. p.depth < suc d) (places_before n d) (map (place d) (layer n d))
     (All-weaker (λ p. p.depth < d) (λ p. p.depth < suc d) (λ p h. omega arith) (places_before n d) (before_depth n d))
     (All-map (λ p. p.depth < suc d) (place d) (layer n d) (each (layer n d))))
   where
-    each : (xs : List ℕ) → All (λ x. d < suc d) xs
+    each : (xs : List ℕ) → AllByRecursion (λ x. d < suc d) xs
     each [] = tt
     each (x ∷ xs) = ((omega arith), each xs)
 
@@ -119,7 +119,7 @@ depths_rise n (suc e) i j z h l = go (cases_lt j (length (places_before n e))) (
     all : length (places_before n (suc e)) ≡ length ps + length qs
     all = ap length more ∙ length-append ps qs
 
-    last : (xs : List ℕ) → All (λ p. p.depth ≡ e) (map (place e) xs)
+    last : (xs : List ℕ) → AllByRecursion (λ p. p.depth ≡ e) (map (place e) xs)
     last [] = tt
     last (x ∷ xs) = (refl, last xs)
 

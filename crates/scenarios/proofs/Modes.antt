@@ -1,7 +1,7 @@
 -- The modes: a sustained scenario is one round repeated, so in each mode ranks and scenarios correspond.
 use Rattle.std.proofs.Common.{◌≡◌, ℕ, zero, suc, ◌<◌, List, [], ◌∷◌, length, get_or, take, replicate, sym, refl, ap, ◌∙◌, subst, arith, ext_get_or}
 use lib.ListN.{length-replicate, get_or-replicate}
-use Rattle.std.specs.List.{AllByRecursion as All}
+use Rattle.std.specs.List.{AllByRecursion}
 use Rattle.std.proofs.lemmas.List.{append-nil}
 use Rattle.std.proofs.ByRecursion.{All-take}
 use Rattle.scenarios.specs.declared.mode.Mode.{Mode}
@@ -24,7 +24,7 @@ correspond = ranks_correspond turns_fit turns_apart rounds_stand rounds_found ro
 pub repeated_one : (R : ℕ) (r : RoundScenario) → repeated R (r ∷ []) ≡ replicate R r
 repeated_one R r = rw append-nil
 
-all_replicate : {X : Type 0} (P : X → Type 0) (R : ℕ) (x : X) → P x → All P (replicate R x)
+all_replicate : {X : Type 0} (P : X → Type 0) (R : ℕ) (x : X) → P x → AllByRecursion P (replicate R x)
 all_replicate P zero x h = tt
 all_replicate P (suc R) x h = (h, all_replicate P R x h)
 
@@ -56,7 +56,7 @@ first_repeats R (r ∷ rs) l e h = (r, alike_repeats R (r ∷ rs) r e h, refl)
 pub legal_repeats : (n R : ℕ) (rs : List RoundScenario) → 0 < R → Legal n R rs × AllAlike rs → (r : RoundScenario) × (rs ≡ replicate R r) × Legal n 1 (r ∷ [])
 legal_repeats n R rs l g =
     let f = first_repeats R rs l g.0.enough g.1 in
-    (f.0, f.1, record { enough = refl; each = subst (All (LegalRound n)) f.2 (All-take (LegalRound n) 1 rs g.0.each) })
+    (f.0, f.1, record { enough = refl; each = subst (AllByRecursion (LegalRound n)) f.2 (All-take (LegalRound n) 1 rs g.0.each) })
 
 pub sustained_back : (n R : ℕ) (rs : List RoundScenario) (d : RoundScenario) → 0 < R → length rs ≡ R → AllAlike rs → repeated R (take 1 rs) ≡ rs
 sustained_back n R rs d l e h =
@@ -64,13 +64,13 @@ sustained_back n R rs d l e h =
     ap (repeated R) f.2 ∙ repeated_one R f.0 ∙ sym f.1
 
 pub sustained_first : (n R : ℕ) (rs : List RoundScenario) → 0 < R → AllAlike rs → length rs ≡ R → Legal n R rs → Canonical n rs
-    → All (LegalRound n) (take 1 rs) × Canonical n (take 1 rs)
+    → AllByRecursion (LegalRound n) (take 1 rs) × Canonical n (take 1 rs)
 sustained_first n R rs l h e g c =
     let f = first_repeats R rs l e h in
     (All-take (LegalRound n) 1 rs g.each, subst (Canonical n) (sym f.2) ((repeats_canonical n R f.0 l).0 (subst (Canonical n) f.1 c)))
 
 -- where the first round alone is not legal and canonical, the rounds are no canonical scenario
-pub sustained_none : (n R : ℕ) (rs : List RoundScenario) → 0 < R → (All (LegalRound n) (take 1 rs) → Canonical n (take 1 rs) → ⊥)
+pub sustained_none : (n R : ℕ) (rs : List RoundScenario) → 0 < R → (AllByRecursion (LegalRound n) (take 1 rs) → Canonical n (take 1 rs) → ⊥)
     → Legal n R rs × AllAlike rs → Canonical n rs → ⊥
 sustained_none n R rs l refuted g c =
     let f = sustained_first n R rs l g.1 g.0.enough g.0 c in

@@ -1,6 +1,6 @@
 -- The step to the next composition, as the code writes it into an array of five.
 use Rattle.std.proofs.Common.{◌≡◌, ℕ, zero, suc, ◌+◌, ◌-◌, ◌<◌, ◌≤◌, true, List, [], ◌∷◌, length, get_or, take, set, Some, None, Option, refl, ap, ◌∙◌, arith}
-use Rattle.std.specs.List.{AllByRecursion as All}
+use Rattle.std.specs.List.{AllByRecursion}
 use Rattle.std.proofs.lemmas.List.{length-take-le, take-take}
 use Rattle.std.proofs.lemmas.Bool.Decides.{nat_tests}
 use Rattle.scenarios.specs.Cells.{total}
@@ -15,7 +15,7 @@ part_most (p ∷ ps) zero = omega arith
 part_most (p ∷ ps) (suc i) = let h = part_most ps i in omega arith
 
 -- the part at j has one before it
-moved_five : (a b c d e len j : ℕ) → len ≤ 4 → All (λ p. 0 < p) (take len (a ∷ b ∷ c ∷ d ∷ e ∷ [])) → LastAbove (take len (a ∷ b ∷ c ∷ d ∷ e ∷ [])) (Some j) → 0 < j
+moved_five : (a b c d e len j : ℕ) → len ≤ 4 → AllByRecursion (λ p. 0 < p) (take len (a ∷ b ∷ c ∷ d ∷ e ∷ [])) → LastAbove (take len (a ∷ b ∷ c ∷ d ∷ e ∷ [])) (Some j) → 0 < j
     → next_composition (take len (a ∷ b ∷ c ∷ d ∷ e ∷ []))
     ≡ Some (take len (set (set (set (a ∷ b ∷ c ∷ d ∷ e ∷ []) j 1) (j - 1) (get_or (a ∷ b ∷ c ∷ d ∷ e ∷ []) (j - 1) 0 + 1)) (len - 1) (get_or (a ∷ b ∷ c ∷ d ∷ e ∷ []) j 0 - 1)))
 moved_five a b c d e zero j l p h k = absurd (omega (arith, h.0))
@@ -40,7 +40,7 @@ moved_five a b c d e (suc (suc (suc (suc zero)))) (suc (suc (suc (suc j)))) l p 
 moved_five a b c d e (suc (suc (suc (suc (suc len))))) j l p h k = absurd (omega arith)
 
 -- the first part is the last above 1
-opened_five : (a b c d e len : ℕ) → len ≤ 4 → All (λ p. 0 < p) (take len (a ∷ b ∷ c ∷ d ∷ e ∷ [])) → LastAbove (take len (a ∷ b ∷ c ∷ d ∷ e ∷ [])) (Some 0) → len < 4
+opened_five : (a b c d e len : ℕ) → len ≤ 4 → AllByRecursion (λ p. 0 < p) (take len (a ∷ b ∷ c ∷ d ∷ e ∷ [])) → LastAbove (take len (a ∷ b ∷ c ∷ d ∷ e ∷ [])) (Some 0) → len < 4
     → next_composition (take len (a ∷ b ∷ c ∷ d ∷ e ∷ []))
     ≡ Some (take (len + 1) (set (set (a ∷ b ∷ c ∷ d ∷ e ∷ []) 0 1) len (a - 1)))
 opened_five a b c d e zero l p h k = absurd (omega (arith, h.0))
@@ -53,7 +53,7 @@ opened_five a b c d e (suc (suc (suc zero))) l p h k =
 opened_five a b c d e (suc (suc (suc (suc len)))) l p h k = absurd (omega arith)
 
 -- four parts, of which no other than the first is above 1; or none at all
-closed_five : (a b c d e len : ℕ) → len ≤ 4 → All (λ p. 0 < p) (take len (a ∷ b ∷ c ∷ d ∷ e ∷ [])) → LastAbove (take len (a ∷ b ∷ c ∷ d ∷ e ∷ [])) (Some 0) → 4 ≤ len
+closed_five : (a b c d e len : ℕ) → len ≤ 4 → AllByRecursion (λ p. 0 < p) (take len (a ∷ b ∷ c ∷ d ∷ e ∷ [])) → LastAbove (take len (a ∷ b ∷ c ∷ d ∷ e ∷ [])) (Some 0) → 4 ≤ len
     → next_composition (take len (a ∷ b ∷ c ∷ d ∷ e ∷ [])) ≡ None
 closed_five a b c d e zero l p h k = absurd (omega arith)
 closed_five a b c d e (suc zero) l p h k = absurd (omega arith)
@@ -64,7 +64,7 @@ closed_five a b c d e (suc (suc (suc (suc zero)))) l p h k =
     rw (next_composition_four a b c d p.1.1.0 p.1.1.1.0) (grind (arith, nat_tests))
 closed_five a b c d e (suc (suc (suc (suc (suc len))))) l p h k = absurd (omega arith)
 
-ended_five : (a b c d e len : ℕ) → len ≤ 4 → All (λ p. 0 < p) (take len (a ∷ b ∷ c ∷ d ∷ e ∷ [])) → LastAbove (take len (a ∷ b ∷ c ∷ d ∷ e ∷ [])) None
+ended_five : (a b c d e len : ℕ) → len ≤ 4 → AllByRecursion (λ p. 0 < p) (take len (a ∷ b ∷ c ∷ d ∷ e ∷ [])) → LastAbove (take len (a ∷ b ∷ c ∷ d ∷ e ∷ [])) None
     → next_composition (take len (a ∷ b ∷ c ∷ d ∷ e ∷ [])) ≡ None
 ended_five a b c d e zero l p h = refl
 ended_five a b c d e (suc zero) l p h = let t : a ≤ 1 = h 0 (omega arith) in rw (next_composition_one a) (grind (arith, nat_tests))
@@ -96,32 +96,32 @@ five (a ∷ b ∷ c ∷ d ∷ e ∷ []) h = record { a = a; b = b; c = c; d = d;
 five (a ∷ b ∷ c ∷ d ∷ e ∷ f ∷ xs) h = absurd (omega arith)
 
 module _ (parts : List ℕ) (long : length parts ≡ 5) (len : ℕ) (few : len ≤ 4) where
-  pub moved : (j : ℕ) → All (λ p. 0 < p) (take len parts) → LastAbove (take len parts) (Some j) → 0 < j
+  pub moved : (j : ℕ) → AllByRecursion (λ p. 0 < p) (take len parts) → LastAbove (take len parts) (Some j) → 0 < j
       → next_composition (take len parts) ≡ Some (take len (set (set (set parts j 1) (j - 1) (get_or parts (j - 1) 0 + 1)) (len - 1) (get_or parts j 0 - 1)))
   moved j = go (five parts long)
     where
-      go : Five parts → All (λ p. 0 < p) (take len parts) → LastAbove (take len parts) (Some j) → 0 < j
+      go : Five parts → AllByRecursion (λ p. 0 < p) (take len parts) → LastAbove (take len parts) (Some j) → 0 < j
           → next_composition (take len parts) ≡ Some (take len (set (set (set parts j 1) (j - 1) (get_or parts (j - 1) 0 + 1)) (len - 1) (get_or parts j 0 - 1)))
       go f = rw f.are (moved_five f.a f.b f.c f.d f.e len j few)
 
-  pub opened : (j : ℕ) → j ≡ 0 → All (λ p. 0 < p) (take len parts) → LastAbove (take len parts) (Some j) → len < 4
+  pub opened : (j : ℕ) → j ≡ 0 → AllByRecursion (λ p. 0 < p) (take len parts) → LastAbove (take len parts) (Some j) → len < 4
       → next_composition (take len parts) ≡ Some (take (len + 1) (set (set parts j 1) len (get_or parts j 0 - 1)))
   opened j z = go (five parts long)
     where
-      go : Five parts → All (λ p. 0 < p) (take len parts) → LastAbove (take len parts) (Some j) → len < 4
+      go : Five parts → AllByRecursion (λ p. 0 < p) (take len parts) → LastAbove (take len parts) (Some j) → len < 4
           → next_composition (take len parts) ≡ Some (take (len + 1) (set (set parts j 1) len (get_or parts j 0 - 1)))
       go f = rw (f.are, z) (opened_five f.a f.b f.c f.d f.e len few)
 
-  pub closed : (j : ℕ) → j ≡ 0 → All (λ p. 0 < p) (take len parts) → LastAbove (take len parts) (Some j) → 4 ≤ len → next_composition (take len parts) ≡ None
+  pub closed : (j : ℕ) → j ≡ 0 → AllByRecursion (λ p. 0 < p) (take len parts) → LastAbove (take len parts) (Some j) → 4 ≤ len → next_composition (take len parts) ≡ None
   closed j z = go (five parts long)
     where
-      go : Five parts → All (λ p. 0 < p) (take len parts) → LastAbove (take len parts) (Some j) → 4 ≤ len → next_composition (take len parts) ≡ None
+      go : Five parts → AllByRecursion (λ p. 0 < p) (take len parts) → LastAbove (take len parts) (Some j) → 4 ≤ len → next_composition (take len parts) ≡ None
       go f = rw (f.are, z) (closed_five f.a f.b f.c f.d f.e len few)
 
-  pub ended : All (λ p. 0 < p) (take len parts) → LastAbove (take len parts) None → next_composition (take len parts) ≡ None
+  pub ended : AllByRecursion (λ p. 0 < p) (take len parts) → LastAbove (take len parts) None → next_composition (take len parts) ≡ None
   ended = go (five parts long)
     where
-      go : Five parts → All (λ p. 0 < p) (take len parts) → LastAbove (take len parts) None → next_composition (take len parts) ≡ None
+      go : Five parts → AllByRecursion (λ p. 0 < p) (take len parts) → LastAbove (take len parts) None → next_composition (take len parts) ≡ None
       go f = rw f.are (ended_five f.a f.b f.c f.d f.e len few)
 
 -- the parts in front of the leader

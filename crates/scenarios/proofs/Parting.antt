@@ -1,6 +1,6 @@
 -- Cells and their parts side by side: what is inner, and letters that rise within cells and stay equal within parts. Assumes nothing.
 use Rattle.std.proofs.Common.{◌≡◌, ℕ, ◌+◌, ◌-◌, ◌<◌, ◌≤◌, Bool, true, false, ◌&&◌, eqb, ltb, ◌⊎◌, List, [], ◌∷◌, ◌++◌, length, get_or, sym, refl, ap, ◌∙◌, inl, inr, arith}
-use Rattle.std.specs.List.{AllByRecursion as All}
+use Rattle.std.specs.List.{AllByRecursion}
 use Rattle.std.proofs.lemmas.Bool.{cases_lt, lt-ltb, le-ltb, cond-true, cond-false, false≢true}
 use Rattle.std.proofs.lemmas.List.{length-append, get_or_append_left, get_or-append_right}
 use Rattle.std.proofs.ByRecursion.{All-append}
@@ -49,7 +49,7 @@ Meets c q x y = (c ≡ true → x ≤ y) × (q ≡ (c && eqb x y))
 
 -- the cells cs fall into the parts qs by the letters ls
 pub record Lays (cs qs ls : List ℕ) : Type 0 where
-  pub filled : All (λ q. 0 < q) qs
+  pub filled : AllByRecursion (λ q. 0 < q) qs
   pub whole : total qs ≡ total cs
   pub long : length ls ≡ total cs
   pub rises : (j : ℕ) → inner cs j ≡ true → get_or ls j 0 ≤ get_or ls (j + 1) 0

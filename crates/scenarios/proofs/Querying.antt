@@ -2,7 +2,7 @@
 use Rattle.std.proofs.Common.{◌≡◌, ℕ, zero, suc, ◌+◌, ◌^◌, ◌<◌, ◌≤◌, ltb, leb, List, [], ◌∷◌, ◌++◌, length, get_or, take, drop, replicate, Some, None, Ok, Err, Option, Result, sym, ap, ◌∙◌, subst, inr, arith}
 use Rattle.std.proofs.lemmas.List.{drop-drop, take_all, length-take-le}
 use Rattle.std.proofs.lemmas.Bool.{lt-ltb, le-ltb, le-leb, lt-leb, cond-true, cond-false}
-use Rattle.std.specs.List.{AllByRecursion as All}
+use Rattle.std.specs.List.{AllByRecursion}
 use Rattle.refusals.specs.declared.Refusal.{Refusal}
 use Rattle.scenarios.specs.Canonical.{LegalRound, Canonical}
 use Rattle.scenarios.specs.Ranking.{RankTold}
@@ -92,13 +92,13 @@ module _ (n R : ℕ) (rs script : List RoundScenario) (h : 0 < R) where
       (subst (λ d. k < count d (n ∷ [])) l w.0, ap (λ d. scenario d (n ∷ []) k) (sym l) ∙ w.1 ∙ all)
   ranked_by Sampled None s q l w = λ legal canonical.
       let all : script ≡ rs = q ∙ take_all R rs (omega arith) in
-      w (subst (All (LegalRound n)) (sym all) legal.each) (subst (Canonical n) (sym all) canonical)
+      w (subst (AllByRecursion (LegalRound n)) (sym all) legal.each) (subst (Canonical n) (sym all) canonical)
   ranked_by Sustained (Some k) s q l w = (
     subst (λ d. k < count d (n ∷ [])) l w.0,
     ap (repeated R) (ap (λ d. scenario d (n ∷ []) k) (sym l) ∙ w.1 ∙ q) ∙ sustained_back n R rs (record { leader = 0; primary = 0; secondary = 0 }) h s.0 s.1,
   )
   ranked_by Sustained None s q l w =
-      sustained_none n R rs h (λ a b. w (subst (All (LegalRound n)) (sym q) a) (subst (Canonical n) (sym q) b))
+      sustained_none n R rs h (λ a b. w (subst (AllByRecursion (LegalRound n)) (sym q) a) (subst (Canonical n) (sym q) b))
 
 pub ranked : (p : Plan) (total D : ℕ) (mem : List Slot) (rs script : List RoundScenario) (o : Option ℕ) → Counted p total mem → Shaped p.mode p.rounds rs → D ≡ depth_of p.mode p.rounds → script ≡ take D rs
     → (count (length script) (p.participants ∷ []) < 2 ^ 64 → take (length (entries p.participants (length script))) mem ≡ entries p.participants (length script) → RankTold p.participants script o)

@@ -1,7 +1,7 @@
 -- Words read back member by member: the masks of roles, the parts, and the number of a choice. Assumes nothing.
 use Rattle.std.proofs.Common.{◌≡◌, ℕ, zero, suc, ◌+◌, ◌-◌, ◌*◌, ◌/◌, ◌%◌, ◌^◌, ◌<◌, ◌≤◌, cond, eqb, ◌≢◌, ◌⊎◌, List, [], ◌∷◌, ◌++◌, map, length, get_or, take, set, replicate, sum, sym, refl, ap, ◌∙◌, subst, inl, inr, mul-le-mul_right, arith, lit<, pow_mono}
 use lib.Count.{ones}
-use Rattle.std.specs.List.{range_with_len, AllByRecursion as All}
+use Rattle.std.specs.List.{range_with_len, AllByRecursion}
 use Rattle.std.proofs.lemmas.Bool.{cases_lt, cases_eq}
 use Rattle.std.proofs.lemmas.Nat.{pow_pos, one_shl, div-add-mod', mod_below}
 use Rattle.std.proofs.lemmas.List.{append_assoc, append-nil, length-append, length-replicate, length_push, length-take-le, take_more, take_more_set, take-take, replicate_more, get_or_push, get_or-append_right, get_or-replicate}
@@ -182,8 +182,8 @@ module _ (x : Reading) (long : length x.parts ≡ 5) (whole : Reads x (spelled x
       some : 0 < x.len
       some = (last y hy low high).0
 
-      fill : All (λ p. 0 < p) qs
-      fill = subst (All (λ p. 0 < p)) (take-take (x.len - 1) x.len x.parts (omega arith)) (All-take (λ p. 0 < p) (x.len - 1) (take x.len x.parts) whole.filled)
+      fill : AllByRecursion (λ p. 0 < p) qs
+      fill = subst (AllByRecursion (λ p. 0 < p)) (take-take (x.len - 1) x.len x.parts (omega arith)) (All-take (λ p. 0 < p) (x.len - 1) (take x.len x.parts) whole.filled)
 
       front : take x.len (set x.parts (x.len - 1) (get_or x.parts (x.len - 1) 0 + 1)) ≡ qs ++ ((p + 1) ∷ [])
       front =

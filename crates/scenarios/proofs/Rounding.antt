@@ -1,6 +1,6 @@
 -- All cells of a turn, and the theorems on its rounds. Assumes nothing.
 use Rattle.std.proofs.Common.{◌≡◌, ℕ, zero, suc, ◌+◌, ◌-◌, ◌*◌, ◌/◌, ◌%◌, ◌<◌, ◌≤◌, Bool, true, eqb, ◌≢◌, ◌⊎◌, List, [], ◌∷◌, length, get_or, take, drop, sym, refl, ap, ◌∙◌, subst, inl, inr, mul_comm, zero-mul, add-one, arith}
-use Rattle.std.specs.List.{flat_map, AllByRecursion as All}
+use Rattle.std.specs.List.{flat_map, AllByRecursion}
 use Rattle.std.proofs.lemmas.Bool.{cases_lt, cases_eq, eq-eqb, ne_eqb, eqb-true, lt-ltb, and_parts, and_from}
 use Rattle.std.proofs.lemmas.Nat.{div_below, mod_below, div-mul-add, mod-mul-add, div-add-mod', mul-add-lt}
 use Rattle.std.proofs.lemmas.List.{take-append-drop, take_at, drop_at, length-take-le, length-drop, get_or-take, get_or-drop}
@@ -32,7 +32,7 @@ fill_lays l i (c ∷ cs) (ps ∷ f) d s h =
     lays_append (c ∷ []) cs ps (flat_map (λ qs. qs) f) (spell ps (tones (eqb i l) ps (d % w))) (letters_from l (i + 1) f (d / w))
     (cell_lays (eqb i l) c ps (d % w) s.0 k.0) (fill_lays l (i + 1) cs f (d / w) s.1 k.1)
 
-pub fill_low : (l i : ℕ) (f : List (List ℕ)) (d : ℕ) → l < i → All (λ x. x < 4) (letters_from l i f d)
+pub fill_low : (l i : ℕ) (f : List (List ℕ)) (d : ℕ) → l < i → AllByRecursion (λ x. x < 4) (letters_from l i f d)
 fill_low l i [] d h = tt
 fill_low l i (ps ∷ f) d h =
     let w = ways (eqb i l) ps in
@@ -117,10 +117,10 @@ module _ (c : ℕ) (cs ls : List ℕ) (len : length ls ≡ c + total cs) where
       let b : c + (j + 1) ≡ c + j + 1 = omega arith in
       rw (get_or-drop c ls j 0, get_or-drop c ls (j + 1) 0, b) (up (c + j) (omega arith) (inner_above c cs (c + j) (omega arith) ∙ ap (inner cs) a ∙ e))
 
-  front_low : (k : ℕ) → Proper k ls → c ≤ k → All (λ x. x < 4) (take c ls)
+  front_low : (k : ℕ) → Proper k ls → c ≤ k → AllByRecursion (λ x. x < 4) (take c ls)
   front_low k p h = All-from_get_or (λ x. x < 4) (take c ls) 0 (λ i l. let m : i < c = omega (arith, short) in rw (front_at i m) (p.others i (omega arith) (λ e. omega arith)))
 
-  back_low : (k : ℕ) → Proper k ls → k < c → All (λ x. x < 4) (drop c ls)
+  back_low : (k : ℕ) → Proper k ls → k < c → AllByRecursion (λ x. x < 4) (drop c ls)
   back_low k p h = All-from_get_or (λ x. x < 4) (drop c ls) 0 (λ i l. rw (get_or-drop c ls i 0) (p.others (c + i) (omega (arith, rest)) (λ e. omega arith)))
 
   front_proper : (k : ℕ) → Proper k ls → k < c → Proper k (take c ls)
@@ -147,7 +147,7 @@ found_none : (l i : ℕ) (ls : List ℕ) → length ls ≡ 0 → Found l i [] ls
 found_none l i [] e = record { fill = []; digit = 0; fills = tt; below = omega arith; letters = refl }
 found_none l i (x ∷ ls) e = absurd (omega arith)
 
-found_low : (l i : ℕ) (cs ls : List ℕ) → l < i → length ls ≡ total cs → All (λ x. x < 4) ls → Rises cs ls → Found l i cs ls
+found_low : (l i : ℕ) (cs ls : List ℕ) → l < i → length ls ≡ total cs → AllByRecursion (λ x. x < 4) ls → Rises cs ls → Found l i cs ls
 found_low l i [] ls h len low up = found_none l i ls len
 found_low l i (c ∷ cs) ls h len low up =
     found_more c cs ls len l i

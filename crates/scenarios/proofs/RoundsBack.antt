@@ -1,7 +1,7 @@
 -- All cells of a round read back, from the last to the first: the number of their letters, and the ends of their parts. Assumes nothing.
 use Rattle.std.proofs.Common.{◌≡◌, ℕ, zero, suc, ◌+◌, ◌-◌, ◌*◌, ◌/◌, ◌%◌, ◌^◌, ◌<◌, ◌≤◌, Bool, true, false, eqb, ltb, leb, ◌⊎◌, List, [], ◌∷◌, ◌++◌, map, length, get_or, take, drop, sym, refl, ap, ◌∙◌, subst, inl, inr, mul_assoc, mul-le-mul_left, mul-add, arith, pow_mono}
 use native.Mathlib.Nat.{div-eq_of_lt, pow-succ'}
-use Rattle.std.specs.List.{range_with_len, flat_map, AllByRecursion as All}
+use Rattle.std.specs.List.{range_with_len, flat_map, AllByRecursion}
 use Rattle.std.proofs.lemmas.Bool.{false≢true, cases_lt, eqb-true, eqb-false, eq-eqb, ne_eqb, lt-ltb, le-ltb, le-leb}
 use Rattle.std.proofs.lemmas.Nat.{pow_pos, pow-add, mul-add-lt, div-mul-add, mod-mul-add}
 use Rattle.std.proofs.lemmas.List.{map-append, length-map, length-take, length-take-le, get_or-take, take_all, take_more, drop_all, drop_more, take-append-drop}
@@ -42,7 +42,7 @@ ends_append (p ∷ ps) qs =
     let k = ap (λ e. e * ends qs) (pow-add 2 p (total ps)) ∙ mul_assoc (2 ^ p) (2 ^ total ps) (ends qs) in
     omega arith
 
-pub ends_below : (ps : List ℕ) → All (λ p. 0 < p) ps → ends ps < 2 ^ total ps
+pub ends_below : (ps : List ℕ) → AllByRecursion (λ p. 0 < p) ps → ends ps < 2 ^ total ps
 ends_below [] f = omega arith
 ends_below (p ∷ ps) f =
     let h = ends_below ps f.1 in
@@ -55,7 +55,7 @@ ends_below (p ∷ ps) f =
     let i = pow_pos (p - 1) in
     omega arith
 
-pub marks_below : (start : ℕ) (ps : List ℕ) → All (λ p. 0 < p) ps → 2 ^ start * ends ps < 2 ^ (start + total ps)
+pub marks_below : (start : ℕ) (ps : List ℕ) → AllByRecursion (λ p. 0 < p) ps → 2 ^ start * ends ps < 2 ^ (start + total ps)
 marks_below start ps f =
     let h = ends_below ps f in
     let l : ends ps + 1 ≤ 2 ^ total ps = omega arith in
@@ -67,7 +67,7 @@ marks_below start ps f =
 
 -- the parts of all cells
 
-pub fill_filled : (l i : ℕ) (cs : List ℕ) (f : List (List ℕ)) → Fills l i cs f → All (λ p. 0 < p) (flat_map (λ ps. ps) f) × (total (flat_map (λ ps. ps) f) ≡ total cs)
+pub fill_filled : (l i : ℕ) (cs : List ℕ) (f : List (List ℕ)) → Fills l i cs f → AllByRecursion (λ p. 0 < p) (flat_map (λ ps. ps) f) × (total (flat_map (λ ps. ps) f) ≡ total cs)
 fill_filled l i [] [] s = (tt, refl)
 fill_filled l i [] (ps ∷ f) s = absurd s
 fill_filled l i (c ∷ cs) [] s = absurd s

@@ -1,6 +1,6 @@
 -- The word of one cell: parts with strictly rising letters spell the words that rise, each in one way. Assumes nothing.
 use Rattle.std.proofs.Common.{◌≡◌, ℕ, zero, suc, ◌+◌, ◌-◌, ◌<◌, ◌≤◌, true, ◌&&◌, eqb, ◌≢◌, ◌⊎◌, List, [], ◌∷◌, ◌++◌, length, get_or, replicate, sym, refl, ap, ◌∙◌, inl, inr, add-one, arith}
-use Rattle.std.specs.List.{AllByRecursion as All}
+use Rattle.std.specs.List.{AllByRecursion}
 use Rattle.std.proofs.lemmas.Bool.{cases_lt, cases_eq, cases_order, lt-ltb, le-ltb, ltb-true, eq-eqb, ne_eqb}
 use Rattle.std.proofs.lemmas.List.{append_assoc, append_cancel_left, length-append, length-replicate, get_or-replicate, get_or_append_left, get_or-append_right}
 use Rattle.scenarios.specs.Cells.{total, inner}
@@ -46,11 +46,11 @@ climbs_next low high [] c j h = absurd (omega arith)
 climbs_next low high (x ∷ w) c zero h = climbs_first x high w c.2 (omega arith)
 climbs_next low high (x ∷ w) c (suc j) h = climbs_next x high w c.2 j (omega arith)
 
-pub climbs_below : (low high : ℕ) (w : List ℕ) → Climbs low high w → All (λ x. x < high) w
+pub climbs_below : (low high : ℕ) (w : List ℕ) → Climbs low high w → AllByRecursion (λ x. x < high) w
 climbs_below low high [] c = tt
 climbs_below low high (x ∷ w) c = (c.1, climbs_below x high w c.2)
 
-pub climbs_from : (low high : ℕ) (w : List ℕ) → (0 < length w → low ≤ get_or w 0 0) → All (λ x. x < high) w → ((j : ℕ) → suc j < length w → get_or w j 0 ≤ get_or w (suc j) 0) → Climbs low high w
+pub climbs_from : (low high : ℕ) (w : List ℕ) → (0 < length w → low ≤ get_or w 0 0) → AllByRecursion (λ x. x < high) w → ((j : ℕ) → suc j < length w → get_or w j 0 ≤ get_or w (suc j) 0) → Climbs low high w
 climbs_from low high [] f b n = tt
 climbs_from low high (x ∷ w) f b n = (f (omega arith), b.0, climbs_from x high w (λ h. n 0 (omega arith)) b.1 (λ j h. n (suc j) (omega arith)))
 
@@ -61,7 +61,7 @@ pub run_right : (p x j k : ℕ) (w : List ℕ) → p + k ≡ j → get_or (repli
 run_right p x j k w q = get_or-append_right (replicate p x) w p j 0 (length-replicate p x) (omega arith) ∙ ap (λ n. get_or w n 0) (let z : j - p ≡ k = omega arith in z)
 
 -- within a part the letters are equal, and between parts they differ
-pub inner_spell : (low high : ℕ) (ps xs : List ℕ) → All (λ p. 0 < p) ps → length ps ≡ length xs → Upwards low high xs → (i : ℕ) → suc i < total ps → inner ps i ≡ eqb (get_or (spell ps xs) i 0) (get_or (spell ps xs) (suc i) 0)
+pub inner_spell : (low high : ℕ) (ps xs : List ℕ) → AllByRecursion (λ p. 0 < p) ps → length ps ≡ length xs → Upwards low high xs → (i : ℕ) → suc i < total ps → inner ps i ≡ eqb (get_or (spell ps xs) i 0) (get_or (spell ps xs) (suc i) 0)
 inner_spell low high [] xs f e u i h = absurd (omega arith)
 inner_spell low high (p ∷ ps) [] f e u i h = absurd (omega arith)
 inner_spell low high (p ∷ ps) (x ∷ xs) f e u i h = go (λ l. inner_spell (suc x) high ps xs f.1 (omega arith) u.2 (i - p) (omega (arith, l))) (cases_order (suc i) p)
@@ -79,7 +79,7 @@ inner_spell low high (p ∷ ps) (x ∷ xs) f e u i h = go (λ l. inner_spell (su
     go ih (inr (inl q)) = inner_below p ps i (omega arith) ∙ lt-ltb (i + 1) p (omega arith) ∙ sym (eq-eqb _ _ (run_left p x i (spell ps xs) (omega arith) ∙ sym (run_left p x (suc i) (spell ps xs) q)))
     go ih (inr (inr q)) = inner_above p ps i (omega arith) ∙ ih (omega arith) ∙ sym (rw (run_right p x i (i - p) (spell ps xs) (omega arith), run_right p x (suc i) (suc (i - p)) (spell ps xs) (omega arith)))
 
-pub spell_lays : (low high c : ℕ) (ps xs : List ℕ) → All (λ p. 0 < p) ps → length ps ≡ length xs → Upwards low high xs → total ps ≡ c → Lays (c ∷ []) ps (spell ps xs)
+pub spell_lays : (low high c : ℕ) (ps xs : List ℕ) → AllByRecursion (λ p. 0 < p) ps → length ps ≡ length xs → Upwards low high xs → total ps ≡ c → Lays (c ∷ []) ps (spell ps xs)
 spell_lays low high c ps xs f e u t = record { filled = f; whole = omega arith; long = omega (arith, length_spell ps xs e); rises = rises; parts = λ j. parts j (cases_lt (j + 1) c) }
   where
     rises : (j : ℕ) → inner (c ∷ []) j ≡ true → get_or (spell ps xs) j 0 ≤ get_or (spell ps xs) (j + 1) 0
@@ -93,12 +93,12 @@ spell_lays low high c ps xs f e u t = record { filled = f; whole = omega arith; 
 pub record Runs (low high : ℕ) (w : List ℕ) : Type 0 where
   pub sizes : List ℕ
   pub heads : List ℕ
-  pub filled : All (λ p. 0 < p) sizes
+  pub filled : AllByRecursion (λ p. 0 < p) sizes
   pub even : length sizes ≡ length heads
   pub upwards : Upwards low high heads
   pub spells : spell sizes heads ≡ w
 
-one_more : (low high x : ℕ) (w : List ℕ) → low ≤ x → x < high → (ps xs : List ℕ) → All (λ p. 0 < p) ps → length ps ≡ length xs → Upwards x high xs → spell ps xs ≡ w → Runs low high (x ∷ w)
+one_more : (low high x : ℕ) (w : List ℕ) → low ≤ x → x < high → (ps xs : List ℕ) → AllByRecursion (λ p. 0 < p) ps → length ps ≡ length xs → Upwards x high xs → spell ps xs ≡ w → Runs low high (x ∷ w)
 one_more low high x w a b [] [] f e u s = record { sizes = 1 ∷ []; heads = x ∷ []; filled = (omega arith, tt); even = refl; upwards = (a, b, tt); spells = ap (λ v. x ∷ v) s }
 one_more low high x w a b [] (y ∷ ys) f e u s = absurd (omega arith)
 one_more low high x w a b (p ∷ ps) [] f e u s = absurd (omega arith)
@@ -125,7 +125,7 @@ no_longer p p' x x' w w' pos up e l =
     let g = up (omega arith) in
     omega arith
 
-pub spell_apart : (low low' high : ℕ) (ps ps' xs xs' : List ℕ) → All (λ p. 0 < p) ps → All (λ p. 0 < p) ps' → length ps ≡ length xs → length ps' ≡ length xs'
+pub spell_apart : (low low' high : ℕ) (ps ps' xs xs' : List ℕ) → AllByRecursion (λ p. 0 < p) ps → AllByRecursion (λ p. 0 < p) ps' → length ps ≡ length xs → length ps' ≡ length xs'
     → Upwards low high xs → Upwards low' high xs' → spell ps xs ≡ spell ps' xs' → (ps ≡ ps') × (xs ≡ xs')
 spell_apart low low' high [] [] [] [] f f' e e' u u' s = (refl, refl)
 spell_apart low low' high [] [] [] (x' ∷ xs') f f' e e' u u' s = absurd (omega arith)

@@ -1,6 +1,6 @@
 -- Cells and the masks of their boundaries tell each other.
 use Rattle.std.proofs.Common.{◌≡◌, ℕ, zero, suc, ◌+◌, ◌-◌, ◌*◌, ◌/◌, ◌%◌, ◌^◌, ◌<◌, Bool, true, false, eqb, List, [], ◌∷◌, ◌++◌, map, length, sym, refl, ap, ◌∙◌, mul_assoc, mul-le-mul_left, pow-suc, mul-add, arith}
-use Rattle.std.specs.List.{range_with_len, AllByRecursion as All}
+use Rattle.std.specs.List.{range_with_len, AllByRecursion}
 use Rattle.std.proofs.lemmas.Nat.{pow_pos, pow-add, shr-shr, mod-pow-add, mod_below}
 use Rattle.std.proofs.lemmas.List.FromFn.{length-map-range_with_len}
 use Rattle.scenarios.specs.Masks.{bit}
@@ -25,7 +25,7 @@ end_below c e b h =
     let z = pow_pos c in
     omega arith
 
-pub ends_below : (ps : List ℕ) → All (λ p. 0 < p) ps → ends ps < 2 ^ total ps
+pub ends_below : (ps : List ℕ) → AllByRecursion (λ p. 0 < p) ps → ends ps < 2 ^ total ps
 ends_below [] h = omega arith
 ends_below (zero ∷ ps) h = absurd (let z = h.0 in omega arith)
 ends_below (suc p ∷ ps) h =
@@ -36,7 +36,7 @@ ends_below (suc p ∷ ps) h =
 
 -- the cells that flags cut
 
-cut_whole : (k : ℕ) (bs : List Bool) → 0 < k → All (λ c. 0 < c) (cut k bs) × (total (cut k bs) ≡ k + length bs)
+cut_whole : (k : ℕ) (bs : List Bool) → 0 < k → AllByRecursion (λ c. 0 < c) (cut k bs) × (total (cut k bs) ≡ k + length bs)
 cut_whole k [] h = ((h, tt), refl)
 cut_whole k (true ∷ bs) h = let r = cut_whole 1 bs (omega arith) in ((h, r.0), (let z = r.1 in omega arith))
 cut_whole k (false ∷ bs) h = let r = cut_whole (k + 1) bs (omega arith) in (r.0, (let z = r.1 in omega arith))
@@ -101,7 +101,7 @@ cut_skips (suc c) k m e =
     even x = omega arith
 
 -- the flags of end masks cut the cells back; k - 1 members of the first cell stand before
-cut_ends : (k c : ℕ) (cs : List ℕ) → 0 < c → All (λ d. 0 < d) cs → cut k (flags (total (c ∷ cs) - 1) (ends (c ∷ cs))) ≡ (k + (c - 1)) ∷ cs
+cut_ends : (k c : ℕ) (cs : List ℕ) → 0 < c → AllByRecursion (λ d. 0 < d) cs → cut k (flags (total (c ∷ cs) - 1) (ends (c ∷ cs))) ≡ (k + (c - 1)) ∷ cs
 unfolding flags
 cut_ends k zero cs h a = absurd (omega arith)
 cut_ends k (suc c) [] h a =

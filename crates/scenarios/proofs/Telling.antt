@@ -1,6 +1,6 @@
 -- A turn is told by the cell that leads and the state after it.
 use Rattle.std.proofs.Common.{◌≡◌, ℕ, ◌+◌, ◌<◌, List, [], ◌∷◌, ◌++◌, sym, refl, ap, ◌∙◌, subst, arith}
-use Rattle.std.specs.List.{flat_map, AllByRecursion as All}
+use Rattle.std.specs.List.{flat_map, AllByRecursion}
 use Rattle.scenarios.specs.Cells.{total, CellsOf, cells, boundaries}
 use Rattle.scenarios.specs.Turns.{Turn, after}
 use Rattle.scenarios.specs.Fits.{Fills, Fits}
@@ -9,7 +9,7 @@ use Rattle.scenarios.proofs.Rounding.{rounds_stand}
 use Rattle.scenarios.proofs.Weighing.{weight_some}
 
 -- positive parts that begin two equal lists and have one total are the same
-same_front : (ps qs xs ys : List ℕ) → All (λ p. 0 < p) ps → All (λ p. 0 < p) qs → total ps ≡ total qs → ps ++ xs ≡ qs ++ ys → (ps ≡ qs) × (xs ≡ ys)
+same_front : (ps qs xs ys : List ℕ) → AllByRecursion (λ p. 0 < p) ps → AllByRecursion (λ p. 0 < p) qs → total ps ≡ total qs → ps ++ xs ≡ qs ++ ys → (ps ≡ qs) × (xs ≡ ys)
 same_front [] [] xs ys a b t e = (refl, e)
 same_front [] (q ∷ qs) xs ys a b t e = absurd (let h = b.0 in omega arith)
 same_front (p ∷ ps) [] xs ys a b t e = absurd (let h = a.0 in omega arith)

@@ -1,6 +1,6 @@
 -- A round read back as a turn and a number, from its cells. Assumes nothing.
 use Rattle.std.proofs.Common.{◌≡◌, ℕ, suc, ◌+◌, ◌-◌, ◌*◌, ◌%◌, ◌^◌, ◌<◌, ◌≤◌, Bool, true, false, ◌⊎◌, List, [], ◌∷◌, map, length, get_or, take, Some, sym, refl, ap, ◌∙◌, subst, inl, inr, arith}
-use Rattle.std.specs.List.{range_with_len, flat_map, AllByRecursion as All}
+use Rattle.std.specs.List.{range_with_len, flat_map, AllByRecursion}
 use Rattle.std.proofs.lemmas.Bool.{both_ways, cases_lt}
 use Rattle.std.proofs.lemmas.Nat.{one_shl}
 use Rattle.std.proofs.lemmas.List.{length-take-le, get_or-take}
@@ -21,7 +21,7 @@ use Rattle.scenarios.proofs.RoundsBack.{range_at, sizes_ranges, total_mono, tota
 
 -- the cells of a state
 
-cut_cells : (size : ℕ) (bs : List Bool) → 0 < size → All (λ c. 0 < c) (cut size bs) × (total (cut size bs) ≡ size + length bs)
+cut_cells : (size : ℕ) (bs : List Bool) → 0 < size → AllByRecursion (λ c. 0 < c) (cut size bs) × (total (cut size bs) ≡ size + length bs)
 cut_cells size [] h = ((h, tt), refl)
 cut_cells size (true ∷ bs) h = let k = cut_cells 1 bs (omega arith) in ((h, k.0), omega (arith, k.1))
 cut_cells size (false ∷ bs) h = let k = cut_cells (size + 1) bs (omega arith) in (k.0, omega (arith, k.1))
@@ -86,7 +86,7 @@ module _ (n s : ℕ) (r : RoundScenario) (rs : List (ℕ × ℕ)) (count : ℕ) 
       record {
         few = omega arith;
         ranged = listed ∙ ap (ranges_from 0) q;
-        filled = subst (All (λ c. 0 < c)) q whole.filled;
+        filled = subst (AllByRecursion (λ c. 0 < c)) q whole.filled;
         within = subst (λ cs. total cs ≤ 64) q (omega (arith, whole.whole));
         leads = h;
         last = subst (λ cs. r.leader + 1 ≡ total (take l cs) + get_or cs l 0) q (e ∙ end_at l h);

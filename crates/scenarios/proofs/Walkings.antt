@@ -1,6 +1,6 @@
 -- The walk over the edges of a state: what holds at its start and after each step.
 use Rattle.std.proofs.Common.{◌≡◌, ℕ, suc, ◌+◌, ◌-◌, ◌<◌, ◌≤◌, Bool, true, false, ltb, List, [], ◌∷◌, map, length, take, Some, None, Option, sym, refl, ap, ◌∙◌, subst, arith}
-use Rattle.std.specs.List.{AllByRecursion as All, range_with_len}
+use Rattle.std.specs.List.{AllByRecursion, range_with_len}
 use Rattle.std.proofs.lemmas.Bool.{lt-ltb, le-ltb, cond-true, cond-false}
 use Rattle.scenarios.specs.declared.refinement.LocalRefinement.{LocalRefinement}
 use Rattle.scenarios.specs.declared.edge.Edges.{Edges}
@@ -25,7 +25,7 @@ pub length_ranges : (start : ℕ) (cs : List ℕ) → length (ranges_from start 
 length_ranges start [] = refl
 length_ranges start (c ∷ cs) = ap suc (length_ranges (start + c) cs)
 
-pub small_cells : (m : ℕ) (cs : List ℕ) → All (λ c. 0 < c) cs → total cs ≤ m → All (λ c. (0 < c) × (c ≤ m)) cs
+pub small_cells : (m : ℕ) (cs : List ℕ) → AllByRecursion (λ c. 0 < c) cs → total cs ≤ m → AllByRecursion (λ c. (0 < c) × (c ≤ m)) cs
 small_cells m [] h b = tt
 small_cells m (c ∷ cs) h b = ((h.0, omega arith), small_cells m cs h.1 (omega arith))
 
@@ -73,7 +73,7 @@ stepped : (cs : List ℕ) (l : ℕ) (f : List (List ℕ)) (o : Option (List (Lis
 stepped cs l f o e = next_turn_is cs l f ∙ ap (through (turn l) (turn_from cs (l + 1))) e
 
 module _ (e : Edges) (w : Walking e) where
-  pub walk_small : All (λ c. (0 < c) × (c ≤ 64)) (cells_at e)
+  pub walk_small : AllByRecursion (λ c. (0 < c) × (c ≤ 64)) (cells_at e)
   walk_small = small_cells 64 (cells_at e) w.whole.filled (let t = w.whole.whole in let b = w.within in omega arith)
 
   long_cells : length (cells_at e) ≡ e.cells

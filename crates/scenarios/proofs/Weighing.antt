@@ -1,6 +1,6 @@
 -- How many rounds an edge stands for: at least one, and never more than 128 bits hold.
 use Rattle.std.proofs.Common.{◌≡◌, ℕ, zero, suc, ◌+◌, ◌-◌, ◌*◌, ◌^◌, ◌<◌, ◌≤◌, Bool, true, false, eqb, ◌⊎◌, List, [], ◌∷◌, ◌++◌, length, get_or, take, drop, sym, ap, ◌∙◌, subst, inl, inr, mul_assoc, mul_comm, mul-one, arith}
-use Rattle.std.specs.List.{AllByRecursion as All}
+use Rattle.std.specs.List.{AllByRecursion}
 use Rattle.std.proofs.lemmas.Nat.{mul-le, pow-add}
 use Rattle.std.proofs.lemmas.List.{take-append-drop, take_more, length-take-le}
 use Rattle.std.proofs.lemmas.Bool.{cases_eq, eq-eqb, ne_eqb}
@@ -83,7 +83,7 @@ weight_under l i (c ∷ cs) (ps ∷ f) h =
     let e = pow-add 4 c (total cs) in
     omega arith
 
-weight_led : (l i : ℕ) (cs : List ℕ) (f : List (List ℕ)) → All (λ c. 0 < c) cs → Fills l i cs f → i ≤ l → l < i + length cs → 4 * weight_from l i f ≤ 3 * 4 ^ total cs
+weight_led : (l i : ℕ) (cs : List ℕ) (f : List (List ℕ)) → AllByRecursion (λ c. 0 < c) cs → Fills l i cs f → i ≤ l → l < i + length cs → 4 * weight_from l i f ≤ 3 * 4 ^ total cs
 weight_led l i [] f p h a b = absurd (omega arith)
 weight_led l i (c ∷ cs) [] p h a b = absurd h
 weight_led l i (c ∷ cs) (ps ∷ f) p h a b = go (cases_eq i l) (weight_led l (i + 1) cs f p.1 h.1)
@@ -115,7 +115,7 @@ pub weight_some : (cs : List ℕ) (t : Turn) → Fits cs t → 1 ≤ weight t
 unfolding weight
 weight_some cs t h = weight_some_from t.leader 0 cs t.fill h.split
 
-pub weight_small : (n : ℕ) (cs : List ℕ) (t : Turn) → n ≤ 64 → total cs ≤ n → All (λ c. 0 < c) cs → Fits cs t → weight t < 2 ^ 128
+pub weight_small : (n : ℕ) (cs : List ℕ) (t : Turn) → n ≤ 64 → total cs ≤ n → AllByRecursion (λ c. 0 < c) cs → Fits cs t → weight t < 2 ^ 128
 unfolding weight
 weight_small n cs t h w p f =
     let a = weight_led t.leader 0 cs t.fill p f.split (omega arith) (let l = f.leads in omega arith) in

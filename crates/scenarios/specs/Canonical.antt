@@ -1,6 +1,6 @@
 -- Legal and canonical scenarios, in the words of rounds, cells and role order.
 use Rattle.std.specs.Prelude.{◌≡◌, ℕ, ◌+◌, ◌-◌, ◌^◌, ◌<◌, ◌≤◌, true, false, ◌||◌, ◌≢◌, List, ◌∷◌, ◌++◌, length, Some, None, Option}
-use Rattle.std.specs.List.{AllByRecursion as All}
+use Rattle.std.specs.List.{AllByRecursion}
 use Rattle.scenarios.specs.declared.round.RoundScenario.{RoundScenario}
 use Rattle.scenarios.specs.declared.cell.CellState.{CellState}
 use Rattle.scenarios.specs.Masks.{bit}
@@ -15,7 +15,7 @@ pub record LegalRound (n : ℕ) (r : RoundScenario) : Type 0 where
 
 pub record Legal (n R : ℕ) (rs : List RoundScenario) : Type 0 where
   pub enough : length rs ≡ R
-  pub each : All (LegalRound n) rs
+  pub each : AllByRecursion (LegalRound n) rs
 
 -- the round leaves i and i + 1 alike: equal roles, and neither leads
 pub record Alike (r : RoundScenario) (i : ℕ) : Type 0 where
@@ -25,7 +25,7 @@ pub record Alike (r : RoundScenario) (i : ℕ) : Type 0 where
 
 -- i and i + 1 are in one cell after these rounds
 abbrev pub Together : List RoundScenario → ℕ → Type 0
-Together rs i = All (λ r. Alike r i) rs
+Together rs i = AllByRecursion (λ r. Alike r i) rs
 
 -- the participants from i to j are in one cell after these rounds
 abbrev pub OneCell : List RoundScenario → ℕ → ℕ → Type 0
@@ -49,5 +49,5 @@ pub record Residual (n : ℕ) (rs : List RoundScenario) (s : ℕ) : Type 0 where
 
 -- the rounds are legal and canonical, and this is the state after them; or they are not
 abbrev pub CanonicalTold : ℕ → List RoundScenario → Option CellState → Type 0
-CanonicalTold n rs None = All (LegalRound n) rs → Canonical n rs → ⊥
-CanonicalTold n rs (Some s) = All (LegalRound n) rs × Canonical n rs × Residual n rs s.boundaries
+CanonicalTold n rs None = AllByRecursion (LegalRound n) rs → Canonical n rs → ⊥
+CanonicalTold n rs (Some s) = AllByRecursion (LegalRound n) rs × Canonical n rs × Residual n rs s.boundaries

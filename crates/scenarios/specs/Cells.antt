@@ -1,6 +1,6 @@
 -- Residual cells: by their sizes, in the order of participants, and by the mask of their boundaries.
 use Rattle.std.specs.Prelude.{◌≡◌, ℕ, ◌+◌, ◌-◌, ◌*◌, ◌%◌, ◌^◌, ◌<◌, Bool, false, cond, List, [], ◌∷◌, map, nat_lt}
-use Rattle.std.specs.List.{range_with_len, AllByRecursion as All}
+use Rattle.std.specs.List.{range_with_len, AllByRecursion}
 use Rattle.scenarios.specs.Masks.{bit}
 
 abbrev pub total : List ℕ → ℕ
@@ -9,7 +9,7 @@ total (x ∷ xs) = x + total xs
 
 -- cells of n participants: none is empty, and together they hold all
 pub record CellsOf (n : ℕ) (cs : List ℕ) : Type 0 where
-  pub filled : All (λ c. 0 < c) cs
+  pub filled : AllByRecursion (λ c. 0 < c) cs
   pub whole : total cs ≡ n
 
 -- the sizes of the cells, from a flag for each participant but the last: whether a cell ends after it

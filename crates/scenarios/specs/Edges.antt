@@ -1,6 +1,6 @@
 -- The walk of the code over the edges of a state, as the turn that it stands at.
 use Rattle.std.specs.Prelude.{◌≡◌, ℕ, zero, suc, ◌≤◌, Bool, true, false, cond, ◌||◌, List, [], ◌∷◌, map, length, take, Some, None, Option, ◌==◌, nat_lt}
-use Rattle.std.specs.List.{slice_get, AllByRecursion as All}
+use Rattle.std.specs.List.{slice_get, AllByRecursion}
 use Rattle.scenarios.specs.declared.refinement.LocalRefinement.{LocalRefinement}
 use Rattle.scenarios.specs.declared.edge.Edges.{Edges}
 use Rattle.scenarios.specs.declared.edge.TransitionEdge.{TransitionEdge}
@@ -34,7 +34,7 @@ pub record Walking (e : Edges) : Type 0 where
   pub ranged : take e.cells e.ranges ≡ ranges_from 0 (cells_at e)
   pub whole : CellsOf e.n (cells_at e)
   pub fits : Fits (cells_at e) (turn_at e)
-  pub short : All (λ r. r.len ≤ 5) (take e.cells e.refinements)
+  pub short : AllByRecursion (λ r. r.len ≤ 5) (take e.cells e.refinements)
 
 -- whether there is a next fill, and it is this one
 abbrev pub Stepped : Bool → Option (List (List ℕ)) → List (List ℕ) → Type 0

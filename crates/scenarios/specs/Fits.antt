@@ -1,6 +1,6 @@
 -- Which turns there are from given cells, by what holds of their parts.
 use Rattle.std.specs.Prelude.{◌≡◌, ℕ, ◌+◌, ◌-◌, ◌<◌, ◌≤◌, Bool, true, List, [], ◌∷◌, ◌++◌, length, ◌==◌, slice_index}
-use Rattle.std.specs.List.{AllByRecursion as All}
+use Rattle.std.specs.List.{AllByRecursion}
 use Rattle.scenarios.specs.Cells.{total}
 use Rattle.scenarios.specs.Turns.{Turn, free}
 
@@ -10,7 +10,7 @@ Among {X} xs x = (before : List X) × (rest : List X) × (xs ≡ before ++ (x �
 
 -- the parts of a cell of c: none is empty, at most four have a role, and a leader stands alone at the end
 pub record Split (led : Bool) (c : ℕ) (ps : List ℕ) : Type 0 where
-  pub filled : All (λ p. 0 < p) ps
+  pub filled : AllByRecursion (λ p. 0 < p) ps
   pub whole : total ps ≡ c
   pub few : free led ps ≤ 4
   pub alone : led ≡ true → slice_index ps (length ps - 1) ≡ 1

@@ -1,6 +1,6 @@
 -- The rank of a script: where the scenarios that begin with a round start, and the rank of all its rounds.
 use Rattle.std.specs.Prelude.{◌≡◌, ℕ, ◌+◌, ◌*◌, ◌<◌, List, [], ◌∷◌, ◌++◌, length, Some, None, Option}
-use Rattle.std.specs.List.{AllByRecursion as All}
+use Rattle.std.specs.List.{AllByRecursion}
 use Rattle.scenarios.specs.declared.round.RoundScenario.{RoundScenario}
 use Rattle.scenarios.specs.declared.read.RoundRank.{RoundRank}
 use Rattle.scenarios.specs.Cells.{cells, boundaries}
@@ -32,4 +32,4 @@ FirstTold r cs t d None = ⊥
 -- the rank of the rounds; none only if they are not legal or not canonical
 abbrev pub RankTold : ℕ → List RoundScenario → Option ℕ → Type 0
 RankTold n rs (Some k) = (k < count (length rs) (n ∷ [])) × (scenario (length rs) (n ∷ []) k ≡ rs)
-RankTold n rs None = All (LegalRound n) rs → Canonical n rs → ⊥
+RankTold n rs None = AllByRecursion (LegalRound n) rs → Canonical n rs → ⊥

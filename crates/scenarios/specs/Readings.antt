@@ -1,6 +1,6 @@
 -- What is read back from a round: the parts and roles of a cell, the split of a cell and the number of its letters, and a turn and the round's number in it.
 use Rattle.std.specs.Prelude.{◌≡◌, ℕ, ◌+◌, ◌-◌, ◌*◌, ◌^◌, ◌<◌, ◌≤◌, Bool, true, false, ◌⊎◌, List, [], ◌∷◌, ◌++◌, map, length, take, Some, None, Option, ◌≢◌, slice_index, slice_index_or}
-use Rattle.std.specs.List.{range_with_len, flat_map, AllByRecursion as All}
+use Rattle.std.specs.List.{range_with_len, flat_map, AllByRecursion}
 use Rattle.scenarios.specs.declared.round.RoundScenario.{RoundScenario}
 use Rattle.scenarios.specs.declared.refinement.LocalRefinement.{LocalRefinement}
 use Rattle.scenarios.specs.declared.read.Reading.{Reading}
@@ -28,7 +28,7 @@ spelled x = spell (take x.len x.parts) (roles_in x.roles)
 
 -- the reading is of the word w
 pub record Reads (x : Reading) (w : List ℕ) : Type 0 where
-  pub filled : All (λ p. 0 < p) (take x.len x.parts)
+  pub filled : AllByRecursion (λ p. 0 < p) (take x.len x.parts)
   pub even : length (roles_in x.roles) ≡ x.len
   pub small : x.roles < 16
   pub few : x.len ≤ 4
@@ -88,7 +88,7 @@ pub record Told (r : RoundScenario) (l i start : ℕ) (cs : List ℕ) (t : Tally
 pub record LedRanges (count l leader : ℕ) (rs : List (ℕ × ℕ)) : Type 0 where
   pub few : count ≤ 64
   pub ranged : take count rs ≡ ranges_from 0 (sizes_in count rs)
-  pub filled : All (λ c. 0 < c) (sizes_in count rs)
+  pub filled : AllByRecursion (λ c. 0 < c) (sizes_in count rs)
   pub within : total (sizes_in count rs) ≤ 64
   pub leads : l < count
   pub last : leader + 1 ≡ total (take l (sizes_in count rs)) + slice_index (sizes_in count rs) l

@@ -1,6 +1,6 @@
 // The edges of a residual state, walked in their order.
 ghost use Rattle.std.specs.Prelude.{◌≡◌, ◌+◌, ◌*◌, ◌^◌, ◌<◌, ◌≤◌, length, take};
-ghost use Rattle.std.specs.List.{AllByRecursion as All};
+ghost use Rattle.std.specs.List.{AllByRecursion};
 ghost use Rattle.scenarios.specs.Fits.{Fills};
 ghost use Rattle.scenarios.specs.Cells as cells;
 ghost use Rattle.scenarios.specs.Steps.{first_fill, next_fill};
@@ -42,10 +42,10 @@ fn next_splits(
 ) -> bool
     requires room { (cells ≤ length ranges.now) × (cells ≤ length splits.old) }
     requires filled { Fills leader 0 (sizes_in cells ranges.now) (fill_of cells splits.old) }
-    requires small { All (λ c. (0 < c) × (c ≤ 64)) (sizes_in cells ranges.now) }
-    requires short { All (λ r. r.len ≤ 5) (take cells splits.old) }
+    requires small { AllByRecursion (λ c. (0 < c) × (c ≤ 64)) (sizes_in cells ranges.now) }
+    requires short { AllByRecursion (λ r. r.len ≤ 5) (take cells splits.old) }
     ensures stepped { Stepped result (next_fill leader 0 (sizes_in cells ranges.now) (fill_of cells splits.old)) (fill_of cells splits.new) }
-    ensures short { All (λ r. r.len ≤ 5) (take cells splits.new) }
+    ensures short { AllByRecursion (λ r. r.len ≤ 5) (take cells splits.new) }
 {
     for i in (0..cells).rev() {
         let (_, size) = ranges[i];
@@ -69,9 +69,9 @@ fn first_splits(
     splits: &mut [LocalRefinement],
 )
     requires room { (cells ≤ length ranges.now) × (cells ≤ length splits.old) }
-    requires small { All (λ c. (0 < c) × (c ≤ 64)) (sizes_in cells ranges.now) }
+    requires small { AllByRecursion (λ c. (0 < c) × (c ≤ 64)) (sizes_in cells ranges.now) }
     ensures begun { fill_of cells splits.new ≡ first_fill leader 0 (sizes_in cells ranges.now) }
-    ensures short { All (λ r. r.len ≤ 5) (take cells splits.new) }
+    ensures short { AllByRecursion (λ r. r.len ≤ 5) (take cells splits.new) }
 {
     for i in 0..cells {
         let (_, size) = ranges[i];
@@ -82,7 +82,7 @@ fn first_splits(
 // The mask with a bit at the last participant of each of the first `len` parts too, which begin at `start`.
 pub(crate) fn add_local_boundaries(mask: u64, start: usize, parts: [usize; 5], len: usize) -> u64
     requires below { mask < 2 ^ start }
-    requires filled { All (λ p. 0 < p) (take len parts) }
+    requires filled { AllByRecursion (λ p. 0 < p) (take len parts) }
     requires within { (start + cells.total (take len parts) ≤ 64) × (len ≤ 5) }
     ensures { result ≡ mask + 2 ^ start * cells.ends (take len parts) }
 {

@@ -1,6 +1,6 @@
 // Reading a round back: the parts and roles of its cells, and from these its turn and its number in it.
 ghost use Rattle.std.specs.Prelude.{◌≡◌, ℕ, ◌+◌, ◌-◌, ◌*◌, ◌^◌, ◌<◌, ◌≤◌, true, length, nat_lt};
-ghost use Rattle.std.specs.List.{AllByRecursion as All};
+ghost use Rattle.std.specs.List.{AllByRecursion};
 ghost use Rattle.scenarios.specs.Cells.{total};
 ghost use Rattle.scenarios.specs.Letters.{role};
 ghost use Rattle.scenarios.specs.Edges.{sizes_in};
@@ -146,7 +146,7 @@ fn read_cell(
 
 // The tally with one cell more in front of the others, so its number is the lowest digit.
 fn add_cell(tally: Tally, start: usize, refinement: LocalRefinement, digit: u64, led: bool) -> Tally
-    requires filled { All (λ p. 0 < p) (sizes refinement) }
+    requires filled { AllByRecursion (λ p. 0 < p) (sizes refinement) }
     requires within { (refinement.len ≤ 5) × (start + total (sizes refinement) ≤ 64) }
     requires some { led ≡ true → 0 < refinement.len }
     requires fits { FitsTally (tallied tally start led refinement digit) }

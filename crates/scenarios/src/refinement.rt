@@ -1,6 +1,6 @@
 // How one cell is split in a round: its parts, with the leader alone at the end if it is in the cell.
 ghost use Rattle.std.specs.Prelude.{◌≡◌, ◌-◌, ◌<◌, ◌≤◌, true, take, Some, None};
-ghost use Rattle.std.specs.List.{AllByRecursion as All};
+ghost use Rattle.std.specs.List.{AllByRecursion};
 ghost use Rattle.scenarios.specs.Cells.{total};
 ghost use Rattle.scenarios.specs.Fits.{Split};
 ghost use Rattle.scenarios.specs.Steps.{first_split};
@@ -33,7 +33,7 @@ fn last_above_one(parts: [usize; 5], len: usize) -> Option<usize>
 // the rest of it goes to the end; where it is the first part, there is one part more.
 fn next_composition(parts: [usize; 5], len: usize) -> Option<([usize; 5], usize)>
     requires few { len ≤ 4 }
-    requires filled { All (λ p. 0 < p) (take len parts) }
+    requires filled { AllByRecursion (λ p. 0 < p) (take len parts) }
     requires small { total (take len parts) ≤ 64 }
     ensures { Composed (take len parts) result }
 {

@@ -1,6 +1,6 @@
 -- Cells that are not empty have fewer sets than there are numbers of 64 bits.
 use Rattle.std.proofs.Common.{◌≡◌, ℕ, zero, suc, ◌+◌, ◌-◌, ◌*◌, ◌^◌, ◌<◌, ◌≤◌, min, Bool, true, false, cond, eqb, List, [], ◌∷◌, length, ap, pow-suc, arith, pow_mono}
-use Rattle.std.specs.List.{AllByRecursion as All}
+use Rattle.std.specs.List.{AllByRecursion}
 use Rattle.std.proofs.lemmas.Nat.{pow-add, pow_below, mul-le}
 use Rattle.std.proofs.lemmas.Bool.{ne_eqb}
 use Rattle.scenarios.specs.Cells.{total}
@@ -36,7 +36,7 @@ suc_at_most_pow (suc c) =
     let p = pow-suc 2 c in
     omega arith
 
-amounts_at_most : (cs : List ℕ) (f : ℕ) → All (λ c. 0 < c) cs → length (amounts cs f) ≤ 2 ^ (total cs - 1)
+amounts_at_most : (cs : List ℕ) (f : ℕ) → AllByRecursion (λ c. 0 < c) cs → length (amounts cs f) ≤ 2 ^ (total cs - 1)
 amounts_at_most [] f h = none_at_most f
 amounts_at_most (c ∷ []) f h =
     let one = one_cell c f in
@@ -53,7 +53,7 @@ amounts_at_most (c ∷ (d ∷ ds)) f h =
     let e : 2 ^ (c + total (d ∷ ds) - 1) ≡ 2 ^ (c + m) = ap (λ k. 2 ^ k) (let z : c + total (d ∷ ds) - 1 ≡ c + m = omega arith in z) in
     omega arith
 
-pub amounts_fit : (cs : List ℕ) (f : ℕ) → All (λ c. 0 < c) cs → total cs ≤ 64 → length (amounts cs f) < 2 ^ 64
+pub amounts_fit : (cs : List ℕ) (f : ℕ) → AllByRecursion (λ c. 0 < c) cs → total cs ≤ 64 → length (amounts cs f) < 2 ^ 64
 amounts_fit cs f h l =
     let most = amounts_at_most cs f h in
     let p = pow_below (total cs - 1) 64 (omega arith) in

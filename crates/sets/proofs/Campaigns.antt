@@ -1,6 +1,6 @@
 -- The numbers of a campaign that break no rule, its cells, and the answers that follow.
 use Rattle.std.proofs.Common.{◌≡◌, ℕ, ◌-◌, ◌<◌, ◌≤◌, Bool, true, false, cond, eqb, ltb, leb, List, [], length, get_or, take, Some, None, Option, sym, refl, ap, ◌∙◌, subst, arith}
-use Rattle.std.specs.List.{AllByRecursion as All}
+use Rattle.std.specs.List.{AllByRecursion}
 use Rattle.std.proofs.lemmas.List.{length-map, get_or-map}
 use Rattle.std.proofs.lemmas.Bool.{ltb-false, leb-false, le-ltb, le-leb, lt-leb}
 use Rattle.scenarios.specs.Cells.{total, cells, ranges_from}
@@ -43,7 +43,7 @@ cells_whole n f s e = let a = allowed n f e in (cells_stand n s (omega arith)).w
 -- the cells of a campaign, as ranges
 pub record Held (n s : ℕ) (rs : List (ℕ × ℕ)) : Type 0 where
   pub are : sizes rs ≡ cells n s
-  pub filled : All (λ c. 0 < c) (sizes rs)
+  pub filled : AllByRecursion (λ c. 0 < c) (sizes rs)
   pub small : total (sizes rs) ≤ 64
   pub placed : rs ≡ ranges_from 0 (sizes rs)
 
@@ -56,7 +56,7 @@ held n f s rs len e told =
     let whole = ap total are ∙ stand.whole in
     record {
       are = are;
-      filled = subst (λ cs. All (λ c. 0 < c) cs) (sym are) stand.filled;
+      filled = subst (λ cs. AllByRecursion (λ c. 0 < c) cs) (sym are) stand.filled;
       small = omega arith;
       placed = is ∙ ap (ranges_from 0) (sym are);
     }

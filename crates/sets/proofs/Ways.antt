@@ -1,6 +1,6 @@
 -- Ways of cells: how many sets they have, for each number of faults below 64.
 use Rattle.std.proofs.Common.{◌≡◌, ℕ, zero, suc, ◌+◌, ◌-◌, ◌^◌, ◌<◌, ◌≤◌, min, List, [], ◌∷◌, map, length, get_or, drop, set, replicate, sym, refl, ap, ◌∙◌, subst, arith}
-use Rattle.std.specs.List.{range_with_len, AllByRecursion as All}
+use Rattle.std.specs.List.{range_with_len, AllByRecursion}
 use Rattle.std.proofs.lemmas.List.{length-map, get_or-replicate, drop_all}
 use Rattle.std.proofs.ByRecursion.{All-drop}
 use Rattle.scenarios.specs.Cells.{total}
@@ -30,7 +30,7 @@ module _ (rs : List (ℕ × ℕ)) (i : ℕ) (h : i < length rs) (ways : List ℕ
   pub ways_more : (k : ℕ) → k < 64 → with_one_more ways (get_or rs i (0, 0)).1 k ≡ length (amounts (drop i (sizes rs)) k)
   ways_more k l = ways_with ways (get_or rs i (0, 0)).1 (drop (i + 1) (sizes rs)) k l w ∙ ap (λ cs. length (amounts cs k)) (sym (sizes_more rs i h))
 
-  pub ways_fit : All (λ c. 0 < c) (sizes rs) → total (sizes rs) ≤ 64 → (k : ℕ) → k < 64 → with_one_more ways (get_or rs i (0, 0)).1 k < 2 ^ 64
+  pub ways_fit : AllByRecursion (λ c. 0 < c) (sizes rs) → total (sizes rs) ≤ 64 → (k : ℕ) → k < 64 → with_one_more ways (get_or rs i (0, 0)).1 k < 2 ^ 64
   ways_fit filled small k l =
       let part = total_drop i (sizes rs) in
       let fit = amounts_fit (drop i (sizes rs)) k (All-drop (λ c. 0 < c) i (sizes rs) filled) (omega arith) in

@@ -3,7 +3,7 @@
 #![tactic(auto)]
 
 ghost use Rattle.std.specs.Prelude.{◌≡◌, ℕ, ◌+◌, ◌-◌, ◌^◌, ◌<◌, ◌≤◌, min, ◌++◌, length, take, drop, Some, None, Ok, Err, slice_index};
-ghost use Rattle.std.specs.List.{range_with_len, AllByRecursion as All};
+ghost use Rattle.std.specs.List.{range_with_len, AllByRecursion};
 ghost use Rattle.refusals.specs.Refusals.{number_of};
 ghost use Rattle.scenarios.specs.Cells.{cells, ranges_from, total};
 ghost use Rattle.sets.specs.Sets.{amounts};
@@ -65,7 +65,7 @@ fn campaign_cells(
 
 // How many sets the cells from `cell` on have, for each number of faults below 64.
 fn ways_from(ranges: &[(usize, usize)], cell: usize) -> [u64; 64]
-    requires filled { All (λ c. 0 < c) (ways.sizes ranges.now) }
+    requires filled { AllByRecursion (λ c. 0 < c) (ways.sizes ranges.now) }
     requires small { total (ways.sizes ranges.now) ≤ 64 }
     ensures { ways.Ways result (drop cell (ways.sizes ranges.now)) }
 {
@@ -112,7 +112,7 @@ fn allocate_faults(
     number: u64,
     members: &mut [usize],
 )
-    requires filled { All (λ c. 0 < c) (ways.sizes ranges.now) }
+    requires filled { AllByRecursion (λ c. 0 < c) (ways.sizes ranges.now) }
     requires small { total (ways.sizes ranges.now) ≤ 64 }
     requires placed { ranges.now ≡ ranges_from 0 (ways.sizes ranges.now) }
     requires few { faults < 64 }

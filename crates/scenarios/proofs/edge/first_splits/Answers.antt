@@ -1,5 +1,5 @@
 use Rattle.std.proofs.Common.{◌≡◌, ◌<◌, ◌≤◌, length, take, subst, arith}
-use Rattle.std.specs.List.{AllByRecursion as All}
+use Rattle.std.specs.List.{AllByRecursion}
 use Rattle.scenarios.proofs.Filling.{size_small, first_more, first_short, first_all}
 use Rattle.scenarios.proofs.edge.first_splits.Goals as goal
 
@@ -16,5 +16,5 @@ loop-i-preserved c =
 pub returns : goal.returns
 returns c = record {
   begun = first_all c.args.leader c.args.cells c.args.ranges.now c.loop-i.splits c.loop-i.i c.requires.room.0 (omega arith) c.loop-i.invariant.0;
-  short = subst (λ k. All (λ r. r.len ≤ 5) (take k c.loop-i.splits)) (let e : c.loop-i.i ≡ c.args.cells = omega arith in e) c.loop-i.invariant.1;
+  short = subst (λ k. AllByRecursion (λ r. r.len ≤ 5) (take k c.loop-i.splits)) (let e : c.loop-i.i ≡ c.args.cells = omega arith in e) c.loop-i.invariant.1;
 }

@@ -1,5 +1,5 @@
 use Rattle.std.proofs.Common.{◌≡◌, ◌<◌, ◌≤◌, map, length, sym, ap, ◌∙◌, subst, arith, rules}
-use Rattle.std.specs.List.{AllByRecursion as All}
+use Rattle.std.specs.List.{AllByRecursion}
 use Rattle.scenarios.specs.Cells.{cells}
 use Rattle.scenarios.specs.Edges.{sizes_in}
 use Rattle.scenarios.proofs.States.{cells_stand}
@@ -18,7 +18,7 @@ first_splits-requires c =
     let t = w.whole in
     record {
       room = (omega arith, omega arith);
-      small = subst (All (λ k. (0 < k) × (k ≤ 64))) (sym e) (small_cells 64 (cells n s) w.filled (omega arith));
+      small = subst (AllByRecursion (λ k. (0 < k) × (k ≤ 64))) (sym e) (small_cells 64 (cells n s) w.filled (omega arith));
     }
 
 pub returns : goal.returns

@@ -1,5 +1,5 @@
 use Rattle.std.proofs.Common.{◌≡◌, ℕ, ◌-◌, ◌<◌, ◌≤◌, Bool, true, List, length, take, Some, None, Option, sym, ap, ◌∙◌, subst, arith, rules}
-use Rattle.std.specs.List.{AllByRecursion as All}
+use Rattle.std.specs.List.{AllByRecursion}
 use Rattle.std.proofs.lemmas.List.{take-take, take_more_set}
 use Rattle.std.proofs.ByRecursion.{All-take}
 use Rattle.scenarios.specs.Steps.{next_split}
@@ -17,7 +17,7 @@ next_composition-requires-2 c =
     let b = c.requires.within in
     record {
       few = omega arith;
-      filled = subst (All (λ p. 0 < p)) e (All-take (λ p. 0 < p) (n - 1) (take n ps) c.requires.split.filled);
+      filled = subst (AllByRecursion (λ p. 0 < p)) e (All-take (λ p. 0 < p) (n - 1) (take n ps) c.requires.split.filled);
       small = rw (← e) (omega arith);
     }
 
