@@ -4,13 +4,13 @@
 #     bench/list.sh ORACLE [LIST]
 #
 # ORACLE is the program that runs the Rust module and answers `list n rounds mode count`. LIST is our program, by default
-# target/bin/list, where `rt check list` puts it. Both medians, in milliseconds, and their ratio are printed. The times are
+# crates/list/out/list, where `rt run` in crates/list puts it. Both medians, in milliseconds, and their ratio are printed. The times are
 # taken by `date +%s%N`, which GNU and busybox have.
 set -eu
 root=$(cd "$(dirname "$0")/.." && pwd -P)
 [ $# -ge 1 ] && [ $# -le 2 ] || { echo "usage: $0 ORACLE [LIST]" >&2; exit 2; }
 oracle=$1
-list=${2:-$root/target/bin/list}
+list=${2:-$root/crates/list/out/list}
 for program in "$oracle" "$list"; do
     [ -x "$program" ] || { echo "$program is not a program" >&2; exit 2; }
 done

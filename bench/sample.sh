@@ -4,14 +4,14 @@
 #     bench/sample.sh ORACLE [REPLAY]
 #
 # ORACLE is the program that runs the Rust module and answers `sample total ranks seed S`. REPLAY is our program, by default
-# target/bin/replay, where `rt check replay` puts it; it reads the same questions with the oracle's answers, and compares.
+# crates/replay_rigs/out/replay_rigs, where `rt run` in crates/replay_rigs puts it; it reads the same questions with the oracle's answers, and compares.
 # Each is run on 101 questions and on one, five times each. What the medians differ by, for each question, is printed in
 # milliseconds, and the ratio. The times are taken by `date +%s%N`, which GNU and busybox have.
 set -eu
 root=$(cd "$(dirname "$0")/.." && pwd -P)
 [ $# -ge 1 ] && [ $# -le 2 ] || { echo "usage: $0 ORACLE [REPLAY]" >&2; exit 2; }
 oracle=$1
-replay=${2:-$root/target/bin/replay}
+replay=${2:-$root/crates/replay_rigs/out/replay_rigs}
 for program in "$oracle" "$replay"; do
     [ -x "$program" ] || { echo "$program is not a program" >&2; exit 2; }
 done

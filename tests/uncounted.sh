@@ -4,8 +4,7 @@
 # In a copy of the crates outside the repository, a function of the library `scenarios` makes the call. On a counted plan it
 # has to compile; on a plan it has to be refused, with one error, which is that `Plan` has no such method. The function stands
 # inside the library, where even private methods are seen, so the call is not there for users either. Nothing of the library
-# is proved for this: the compiler's front end refuses first. What the library builds on is proved in the copy, unless the
-# repository's target/ has it already.
+# is proved for this: `rt names` reads and types the code, and the compiler's front end refuses first.
 set -u
 root=$(cd "$(dirname "$0")/.." && pwd -P) || exit 2
 copy=$(mktemp -d) || exit 2
@@ -18,11 +17,14 @@ fail() {
     exit 1
 }
 
-cp -r "$root/crates" "$root/crates.txt" "$copy" || exit 2
-if [ -d "$root/target/stamp" ]; then
-    mkdir "$copy/target" || exit 2
-    for kept in rlib stamp log; do cp -r "$root/target/$kept" "$copy/target/" || exit 2; done
-fi
+# the sources alone: what checks keep beside them is large
+printf 'refusals:\ntable:\nscenarios: refusals table\n' >"$copy/crates.txt" || exit 2
+for crate in refusals table scenarios; do
+    mkdir -p "$copy/crates/$crate" || exit 2
+    for part in src specs proofs; do
+        [ ! -d "$root/crates/$crate/$part" ] || cp -r "$root/crates/$crate/$part" "$copy/crates/$crate/" || exit 2
+    done
+done
 library=$copy/crates/scenarios/src
 echo 'mod asked;' >>"$library/lib.rt"
 
@@ -37,14 +39,14 @@ fn asked(plan: &$2, rounds: &mut [RoundScenario]) {
     let _ = plan.scenario(0, rounds);
 }
 END
-    (cd "$copy" && rt mir scenarios) 2>"$copy/said" >/dev/null
+    (cd "$copy/crates/scenarios" && rt names "$copy/names") >"$copy/said" 2>&1
 }
 
 ask CountedPlan "CountedPlan<'_>" || fail "a counted plan cannot be asked for a scenario"
 if ask Plan Plan; then fail "a plan that is not counted was asked for a scenario, and it compiled"; fi
 
 # one error, at the call, for that reason
-reason='/asked\.rt:6:[0-9]*: error\[unknown-method\]: no method named `scenario` found for type `Plan`'
+reason='asked\.rt:6:[0-9]*: error\[unknown-method\]: no method named `scenario` found for type `Plan`'
 [ "$(grep -c ': error' "$copy/said")" -eq 1 ] || fail "not just one error"
 grep -q "$reason" "$copy/said" || fail "refused for another reason"
 echo "uncounted: a plan that is not counted has no method \`scenario\`, says the compiler"

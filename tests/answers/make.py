@@ -2,11 +2,11 @@
 """Writes the oracle's answers to questions about totals, edges, ranks, samples, shuffles, compromised sets, terms,
 groups, routes and leaders, a question and its answer on a line.
 
-    make.py ORACLE [OUT]
+    make.py ORACLE [CRATES]
 
-ORACLE is a program that runs the Rust module and answers questions about it; OUT is the standard input of
-the program `replay` unless another path is given. The questions do not depend on anything but this script, so
-two runs write the same file.
+ORACLE is a program that runs the Rust module and answers questions about it. The questions on totals, edges and
+ranks go to replay/stdin in the folder CRATES, the others to replay_rigs/stdin; CRATES is the repository's own unless
+another folder is given. The questions do not depend on anything but this script, so two runs write the same files.
 """
 import os
 import subprocess
@@ -435,22 +435,28 @@ def elect_lines(oracle, words):
                 yield f"elect {pile} {view} {term} {count} {fallback} {answer}"
 
 
+def write(crates, program, lines):
+    with open(os.path.join(crates, program, "stdin"), "w", encoding="ascii", newline="\n") as file:
+        file.writelines(line + "\n" for line in lines)
+
+
 def main():
     words = sys.argv[1:]
     if not 1 <= len(words) <= 2:
         raise SystemExit(__doc__)
     here = os.path.dirname(os.path.abspath(__file__))
-    out = words[1] if len(words) == 2 else os.path.join(here, "..", "..", "crates", "replay", "stdin")
+    crates = words[1] if len(words) == 2 else os.path.join(here, "..", "..", "crates")
     oracle = Oracle(words[0])
     known = list(plans(oracle, Words(1)))
-    lines = [*total_lines(oracle, known), *edge_lines(oracle, Words(2)), *unrank_lines(oracle, Words(3), known)]
-    lines += [*sample_lines(oracle, Words(4)), *shuffle_lines(oracle, Words(5)), *splitmix_lines(oracle, Words(6))]
+    write(crates, "replay", [
+        *total_lines(oracle, known), *edge_lines(oracle, Words(2)), *unrank_lines(oracle, Words(3), known),
+    ])
+    lines = [*sample_lines(oracle, Words(4)), *shuffle_lines(oracle, Words(5)), *splitmix_lines(oracle, Words(6))]
     lines += set_lines(oracle, Words(7))
     lines += [*once(place_lines(oracle, Words(8))), *once(partition_lines(oracle, Words(9)))]
     lines += [*once(route_lines(oracle, Words(10))), *once(view_partition_lines(oracle, Words(11)))]
     lines += [*once(view_route_lines(oracle, Words(12))), *once(elect_lines(oracle, Words(13)))]
-    with open(out, "w", encoding="ascii", newline="\n") as file:
-        file.writelines(line + "\n" for line in lines)
+    write(crates, "replay_rigs", lines)
 
 
 if __name__ == "__main__":
