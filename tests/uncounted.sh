@@ -4,7 +4,7 @@
 # In a copy of the crates outside the repository, a function of the library `scenarios` makes the call. On a counted plan it
 # has to compile; on a plan it has to be refused, with one error, which is that `Plan` has no such method. The function stands
 # inside the library, where even private methods are seen, so the call is not there for users either. Nothing of the library
-# is proved for this: `rt names` reads and types the code, and the compiler's front end refuses first.
+# is proved for this: `rt names` takes the code through the compiler's front end, types and borrows included, which refuses first.
 set -u
 root=$(cd "$(dirname "$0")/.." && pwd -P) || exit 2
 copy=$(mktemp -d) || exit 2
