@@ -8,8 +8,8 @@ use Rattle.std.proofs.lemmas.List.FromFn.{get_or-map-range_with_len, length-map-
 use Rattle.orders.specs.Orders.{Order, Sorted, Renaming, MovedBy}
 use Rattle.orders.proofs.Sorting.{only_sorted, shuffled_from_moved}
 
-pub ≤-order : Order ◌≤◌
-≤-order = record { total = λ x y. ⊎_elim (λ h. inl (omega arith)) (λ h. inr h) (cases_lt x y); trans = λ x y z h k. omega arith; antisym = λ x y h k. omega arith }
+pub ≤_order : Order ◌≤◌
+≤_order = record { total = λ x y. ⊎_elim (λ h. inl (omega arith)) (λ h. inr h) (cases_lt x y); trans = λ x y z h k. omega arith; antisym = λ x y h k. omega arith }
 
 -- the values rise below n
 abbrev pub RisingBelow : ℕ → (ℕ → ℕ) → Type 0
@@ -35,7 +35,7 @@ module _ {n : ℕ} (p : Renaming n) where
   -- values that rise before and after the permutation are the same
   pub same_rising : (v w : ℕ → ℕ) → ((i : ℕ) → i < n → w (p.to i) ≡ v i) → RisingBelow n v → RisingBelow n w → (i : ℕ) → i < n → v i ≡ w i
   same_rising v w e up up' i h =
-      let q = only_sorted ◌≤◌ ≤-order (map v (range_with_len 0 n)) (map w (range_with_len 0 n)) p (moved_values v w e) (sorted_from_rising n v up) (sorted_from_rising n w up') in
+      let q = only_sorted ◌≤◌ ≤_order (map v (range_with_len 0 n)) (map w (range_with_len 0 n)) p (moved_values v w e) (sorted_from_rising n v up) (sorted_from_rising n w up') in
       sym (get_or-map-range_with_len v 0 n i i 0 h (omega arith)) ∙ ap (λ l. get_or l i 0) q ∙ get_or-map-range_with_len w 0 n i i 0 h (omega arith)
 
   -- as many pass g as pass g after the permutation
@@ -44,4 +44,4 @@ module _ {n : ℕ} (p : Renaming n) where
       let v : ℕ → ℕ = λ i. cond (g i) 1 0 in
       let w : ℕ → ℕ = λ i. cond (g (p.back i)) 1 0 in
       let m = moved_values v w (λ i h. ap v (p.back_to i h)) in
-      length-filter (λ i. g (p.back i)) (range_with_len 0 n) ∙ sym (sum-map w (range_with_len 0 n)) ∙ sum_by-IsPermutation (λ x. x) _ _ (shuffled_from_moved ◌≤◌ ≤-order n _ _ (p, m)) ∙ sum-map v (range_with_len 0 n) ∙ sym (length-filter g (range_with_len 0 n))
+      length-filter (λ i. g (p.back i)) (range_with_len 0 n) ∙ sym (sum-map w (range_with_len 0 n)) ∙ sum_by-IsPermutation (λ x. x) _ _ (shuffled_from_moved ◌≤◌ ≤_order n _ _ (p, m)) ∙ sum-map v (range_with_len 0 n) ∙ sym (length-filter g (range_with_len 0 n))

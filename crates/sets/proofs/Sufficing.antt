@@ -12,7 +12,7 @@ use Rattle.sets.specs.Claims.{Exchanges, SetsSuffice}
 use Rattle.sets.proofs.Members.{same_set}
 use Rattle.sets.proofs.CellPlaces.{cell_here, cell_behind}
 use Rattle.sets.proofs.Marks.{mark, Marked, mark_is, mark_tells}
-use Rattle.sets.proofs.Rearranged.{≤-order, RisingBelow, same_rising}
+use Rattle.sets.proofs.Rearranged.{≤_order, RisingBelow, same_rising}
 use Rattle.sets.proofs.SetsRenamed.{renamed, member_renamed, set_renamed}
 
 -- a later participant is in no earlier cell
@@ -84,7 +84,7 @@ sorting_keys : (n : ℕ) (cs s : List ℕ) → SortingKeys n cs s
 sorting_keys n cs s =
     let ks = map (key cs s) (range_with_len 0 n) in
     let long : length ks ≡ n = length-map-range_with_len (key cs s) 0 n in
-    let o = sorts ◌≤◌ ≤-order ks in
+    let o = sorts ◌≤◌ ≤_order ks in
     let m = moved_from_shuffled n ks o.the long o.holds.0 in
     record {
       by = m.0;
