@@ -2,11 +2,13 @@
 
 #![tactic(auto)]
 
+ghost use Rattle.std.specs.Prelude.{◌≡◌};
 ghost use Rattle.cases.specs.Claims.{EachCaseOnce};
 
 // Each legal case of a plan is a renaming of the case of exactly one rank and set number.
 pub fn cases_stand() -> u8
-    ensures { EachCaseOnce }
+    ensures each_case_once { EachCaseOnce }
+    ensures answer { result ≡ 0 }
 {
     0
 }

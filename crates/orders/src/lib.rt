@@ -2,6 +2,7 @@
 
 #![tactic(auto)]
 
+ghost use Rattle.std.specs.Prelude.{◌≡◌};
 ghost use Rattle.orders.specs.Orders.{Lex};
 ghost use Rattle.orders.specs.Claims.{Sorts, LexOrders};
 
@@ -9,6 +10,7 @@ ghost use Rattle.orders.specs.Claims.{Sorts, LexOrders};
 pub fn sorting_stands() -> u8
     ensures lex_orders { LexOrders }
     ensures sorts { Sorts Lex }
+    ensures answer { result ≡ 0 }
 {
     0
 }

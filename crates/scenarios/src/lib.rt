@@ -2,6 +2,7 @@
 
 #![tactic(auto)]
 
+ghost use Rattle.std.specs.Prelude.{◌≡◌};
 ghost use Rattle.scenarios.specs.Worked.{WorkedTotals, WorkedRanks};
 ghost use Rattle.scenarios.specs.Claims.{TurnsFit, TurnsApart, TurnsBegin, TurnsWalk, RoundsStand, RoundsFound, RoundsApart, RanksCorrespond, CellsResidual, RepeatsCanonical};
 
@@ -38,6 +39,7 @@ pub use round::RoundScenario;
 pub fn worked_stand() -> u8
     ensures worked_totals { WorkedTotals }
     ensures worked_ranks { WorkedRanks }
+    ensures answer { result ≡ 0 }
 {
     0
 }
@@ -48,6 +50,7 @@ pub fn turns_stand() -> u8
     ensures turns_apart { TurnsApart }
     ensures turns_begin { TurnsBegin }
     ensures turns_walk { TurnsWalk }
+    ensures answer { result ≡ 0 }
 {
     0
 }
@@ -57,6 +60,7 @@ pub fn rounds_stand() -> u8
     ensures rounds_stand { RoundsStand }
     ensures rounds_found { RoundsFound }
     ensures rounds_apart { RoundsApart }
+    ensures answer { result ≡ 0 }
 {
     0
 }
@@ -66,6 +70,7 @@ pub fn ranks_stand() -> u8
     ensures ranks_correspond { RanksCorrespond }
     ensures cells_residual { CellsResidual }
     ensures repeats_canonical { RepeatsCanonical }
+    ensures answer { result ≡ 0 }
 {
     0
 }

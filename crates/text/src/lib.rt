@@ -120,14 +120,16 @@ pub fn read_plan_line(text: &[u8]) -> Result<PlanLine, Refusal>
 
 // That a text is at most one line, and is one just where no fault is found; and that a number is read just where it is written so.
 pub fn lines_stand() -> u8
-    ensures { lines.LinesStand }
+    ensures lines_stand { lines.LinesStand }
+    ensures answer { result ≡ 0 }
 {
     0
 }
 
 // Examples of lines, and of places of faults.
 pub fn lines_worked_stand() -> u8
-    ensures { lines.LinesWorked }
+    ensures lines_worked { lines.LinesWorked }
+    ensures answer { result ≡ 0 }
 {
     0
 }

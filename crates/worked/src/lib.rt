@@ -2,6 +2,7 @@
 
 #![tactic(auto)]
 
+ghost use Rattle.std.specs.Prelude.{◌≡◌};
 ghost use Rattle.scenarios.specs.Worked.{WorkedTotals, WorkedRanks};
 ghost use Rattle.worked.specs.Worked.{WorkedDraws, WorkedSets, WorkedTerms, WorkedGroups};
 
@@ -13,6 +14,7 @@ pub fn worked_stand() -> u8
     ensures worked_sets { WorkedSets }
     ensures worked_terms { WorkedTerms }
     ensures worked_groups { WorkedGroups }
+    ensures answer { result ≡ 0 }
 {
     0
 }

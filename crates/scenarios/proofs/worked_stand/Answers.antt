@@ -6,4 +6,4 @@ use Rattle.scenarios.proofs.worked_stand.Goals as goal
 
 pub returns : goal.returns
 unfolding bit round_of roles_in choices choose subset turns weight after round
-returns c = record { worked_totals = (refl, lit≤ tt, refl, refl); worked_ranks = (refl, refl, refl, refl, refl, refl, refl) }
+returns c = record { worked_totals = (refl, lit≤ tt, refl, refl); worked_ranks = (refl, refl, refl, refl, refl, refl, refl); answer = refl }

@@ -16,4 +16,5 @@ returns c = record {
   worked_sets = (refl, refl);
   worked_terms = (refl, refl);
   worked_groups = (refl, refl, refl);
+  answer = refl;
 }
