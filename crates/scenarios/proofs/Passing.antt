@@ -1,6 +1,5 @@
 -- A walk over the turns from a state, up to the one that was read: what is passed, and its sum.
-use Rattle.std.proofs.Common.{◌≡◌, ℕ, ◌+◌, ◌-◌, ◌*◌, ◌^◌, ◌<◌, ◌⊎◌, List, [], ◌∷◌, ◌++◌, Some, None, Option, sym, refl, ap, ◌∙◌, subst, inl, inr, arith}
-use Rattle.std.specs.Option.{SomeIff}
+use Rattle.std.proofs.Common.{◌≡◌, ℕ, ◌+◌, ◌-◌, ◌*◌, ◌^◌, ◌<◌, ◌⊎◌, List, [], ◌∷◌, ◌++◌, None, sym, refl, ap, ◌∙◌, subst, inl, inr, arith}
 use Rattle.std.proofs.lemmas.List.{append_assoc}
 use Rattle.std.proofs.lemmas.Nat.{mul-le}
 use Rattle.scenarios.specs.declared.edge.Edges.{Edges}
@@ -13,8 +12,7 @@ use Rattle.scenarios.specs.Steps.{next_turn}
 use Rattle.scenarios.specs.Edges.{cells_at, turn_at, edge_of, Walking, Begun, Moved, left_of}
 use Rattle.scenarios.specs.Scenarios.{sum_of, count}
 use Rattle.scenarios.specs.Counting.{layer}
-use Rattle.scenarios.specs.Ranking.{Tells, FirstRank, FirstTold}
-use Rattle.scenarios.specs.Unranking.{IntervalTold}
+use Rattle.scenarios.specs.Ranking.{Tells, FirstRank}
 use Rattle.scenarios.proofs.States.{cells_stand}
 use Rattle.scenarios.proofs.Walks.{turns_fit}
 use Rattle.scenarios.proofs.Members.{among_none, among_cases}
@@ -25,11 +23,6 @@ use Rattle.scenarios.proofs.Layers.{count_below, next_cells}
 use Rattle.scenarios.proofs.Finding.{layer_after}
 use Rattle.scenarios.proofs.Onward.{left_begun, left_moved, left_ended, left_here}
 use Rattle.scenarios.proofs.Telling.{same_turn}
-
--- a product is told where its factor fits and a sum with it does
-pub fits_told : (m w v : ℕ) → m < 2 ^ 64 → v + m * w < 2 ^ 64 → IntervalTold m w None → ⊥
-fits_told m w v a b (inl c) = omega arith
-fits_told m w v a b (inr c) = omega arith
 
 -- the walk stands at e, v sums the turns passed, and the turn that was read is still ahead
 pub record Passing (r n s : ℕ) (x : RoundRank) (e : Edges) (v : ℕ) : Type 0 where
@@ -74,12 +67,15 @@ module _ (R d : ℕ) {n s : ℕ} {x : RoundRank} {e : Edges} {v : ℕ} {y : Tran
   among_turns : Among (turns (cells n s)) here
   among_turns = (turns_fit n (cells n s) stands here).1 fits_here
 
+  pub edge_reached : Among (layer n d) s → Among (layer n (d + 1)) y.next.boundaries
+  edge_reached a = subst (λ z. Among (layer n (d + 1)) z.next.boundaries) (sym is) (layer_after n d s here a among_turns)
+
   -- the count of the state after the edge, where it is found for a state of its layer
   module _ {w : ℕ} (a : Among (layer n d) s) (l : d < R) (most : count R (n ∷ []) < 2 ^ 64)
       (found : Among (layer n (d + 1)) y.next.boundaries → w ≡ count (R - (d + 1)) (cells n y.next.boundaries)) where
     ways_here : w ≡ count (R - (d + 1)) (after here)
     ways_here =
-        found (subst (λ z. Among (layer n (d + 1)) z.next.boundaries) (sym is) (layer_after n d s here a among_turns))
+        found (edge_reached a)
         ∙ ap (λ z. count (R - (d + 1)) (cells n z.next.boundaries)) is
         ∙ ap (count (R - (d + 1))) (next_cells n s here some among_turns)
 
@@ -120,7 +116,7 @@ module _ {r n s : ℕ} {x : RoundRank} {e : Edges} {v : ℕ} {y : TransitionEdge
         let m = mul-le x.rank w y.multiplicity w (omega arith) (omega arith) in
         ((omega arith), (omega arith))
 
-    pass_found : (t : Turn) → Tells n s x t → FirstRank r (cells n s) t x.rank (v + x.rank * w)
+    pub pass_found : (t : Turn) → Tells n s x t → FirstRank r (cells n s) t x.rank (v + x.rank * w)
     pass_found t f =
         let p = left_here e h.passing.walking in
         let g : FirstRank r (cells n s) (turn_at e) x.rank (v + x.rank * w) = record {
@@ -130,13 +126,6 @@ module _ {r n s : ℕ} {x : RoundRank} {e : Edges} {v : ℕ} {y : TransitionEdge
           is = ap (λ k. k + x.rank * w) h.passing.sum ∙ ap (λ k. sum_of (size r) h.passing.passed + x.rank * k) h.ways;
         } in
         subst (λ u. FirstRank r (cells n s) u x.rank (v + x.rank * w)) (read_here t f) g
-
-    -- the sum is asked for with the product k
-    pub found_told : (t : Turn) → Tells n s x t → (k : ℕ) → k ≡ x.rank * w → (o : Option ℕ) → SomeIff o (v + k < 2 ^ 64) (v + k) → FirstTold r (cells n s) t x.rank o
-    found_told t f k q None no' =
-        let g = (number_fits t f).1 in
-        absurd (no' (omega arith))
-    found_told t f k q (Some u) is = subst (FirstRank r (cells n s) t x.rank) (sym (is.1 ∙ ap (λ j. v + j) q)) (pass_found t f)
 
   -- it is another one
   module _ (other : y.leader ≡ x.leader_cell → y.next.boundaries ≡ x.next.boundaries → ⊥) where

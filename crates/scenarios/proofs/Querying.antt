@@ -1,33 +1,27 @@
 -- What a counted plan answers.
-use Rattle.std.proofs.Common.{◌≡◌, ℕ, zero, suc, ◌+◌, ◌^◌, ◌<◌, ◌≤◌, ltb, leb, List, [], ◌∷◌, ◌++◌, length, get_or, take, drop, replicate, Some, None, Ok, Err, Option, Result, sym, ap, ◌∙◌, subst, inr, arith}
+use Rattle.std.proofs.Common.{◌≡◌, ℕ, zero, suc, ◌+◌, ◌<◌, ◌≤◌, ltb, leb, List, [], ◌∷◌, ◌++◌, length, get_or, take, drop, replicate, Some, None, Option, Result, sym, ap, ◌∙◌, subst, inr, arith}
 use Rattle.std.proofs.lemmas.List.{drop-drop, take_all, length-take-le}
 use Rattle.std.proofs.lemmas.Bool.{lt-ltb, le-ltb, le-leb, lt-leb, cond-true, cond-false}
 use Rattle.std.specs.List.{AllByRecursion}
+use Rattle.std.specs.Option.{ok_or}
 use Rattle.refusals.specs.declared.Refusal.{Refusal}
-use Rattle.scenarios.specs.Canonical.{LegalRound, Canonical}
+use Rattle.refusals.specs.declared.Refusal.TheVariants.{NotCanonical}
+use Rattle.scenarios.specs.Canonical.{LegalRound, Canonical, CanonicalTold}
 use Rattle.scenarios.specs.Ranking.{RankTold}
+use Rattle.scenarios.specs.Unranking.{RoundsTold}
+use Rattle.scenarios.specs.declared.cell.CellState.{CellState}
 use Rattle.scenarios.specs.declared.mode.Mode.{Mode}
 use Rattle.scenarios.specs.declared.mode.Mode.TheVariants.{Sampled, Sustained}
 use Rattle.scenarios.specs.declared.plan.Plan.{Plan}
 use Rattle.scenarios.specs.declared.round.RoundScenario.{RoundScenario}
-use Rattle.scenarios.specs.Counting.{Slot, entries, CountedAs, RefusedAs}
+use Rattle.scenarios.specs.Counting.{Slot, CountedAs}
 use Rattle.scenarios.specs.Cells.{boundaries}
-use Rattle.scenarios.specs.Scenarios.{count, scenario, residual}
+use Rattle.scenarios.specs.Scenarios.{count, scenario}
 use Rattle.scenarios.specs.Plans.{depth_of, total_of, scenario_of, residual_of, repeated, LegalIn, CorrespondsIn}
-use Rattle.scenarios.specs.PlanCounts.{fault_of, Counted, PlanCounted, PlanRefused, scenario_fault, Shaped}
+use Rattle.scenarios.specs.PlanCounts.{fault_of, Counted, UnrankedTold, scenario_fault, Shaped, RankAnswered, CanonicalAnswered}
 use Rattle.scenarios.proofs.Planning.{plan_sound}
 use Rattle.scenarios.proofs.Finding.{counted_front}
 use Rattle.scenarios.proofs.Modes.{repeated_one, corresponds_in, sustained_back, sustained_none}
-
--- counting keeps its promise to the calls that follow
-pub count_told : (p : Plan) (xs ys : List Slot) (r : Result ℕ Refusal) (n D : ℕ) → n ≡ p.participants → D ≡ depth_of p.mode p.rounds → fault_of p ≡ None
-    → elim r as (λ _. Type 0) [ Ok v ↦ CountedAs n D xs v ys | Err e ↦ RefusedAs n D xs e ys ]
-    → elim r as (λ _. Type 0) [ Ok v ↦ PlanCounted p xs v ys | Err e ↦ PlanRefused p xs e ys ]
-count_told p xs ys (Ok v) n D en ed f h =
-    let c : CountedAs p.participants (depth_of p.mode p.rounds) xs v ys = subst (λ k. CountedAs k (depth_of p.mode p.rounds) xs v ys) en (subst (λ k. CountedAs n k xs v ys) ed h) in
-    (record { rules = f; total_is = c.1; fits = c.2; entries_are = counted_front p.participants (depth_of p.mode p.rounds) v xs ys c }, c)
-count_told p xs ys (Err e) n D en ed f h =
-    inr (f, subst (λ k. RefusedAs k (depth_of p.mode p.rounds) xs e ys) en (subst (λ k. RefusedAs n k xs e ys) ed h))
 
 -- in sustained mode the one round is repeated
 pub repeated_rounds : (R : ℕ) (r b : RoundScenario) (xs mid ys : List RoundScenario) → 0 < R → mid ≡ (r ∷ []) ++ drop 1 xs → ys ≡ replicate R (get_or mid 0 b) ++ drop R mid
@@ -59,19 +53,21 @@ pub corresponds : (p : Plan) (total : ℕ) (ys : List Slot) → Counted p total 
 corresponds p total ys c = let r = ruled p c.rules in corresponds_in p.mode p.participants p.rounds r.0 r.2
 
 -- the work in sustained mode: one round ranked, and repeated
-pub sustained_told : (m : Mode) (n R rank total D : ℕ) (mem : List Slot) (xs mid ys : List RoundScenario) (b : RoundScenario) (sb : ℕ)
-    → m ≡ Sustained → D ≡ depth_of m R → 0 < R → total ≡ total_of m n R → total < 2 ^ 64 → rank < total
-    → take (length (entries n (depth_of m R))) mem ≡ entries n (depth_of m R)
-    → (count D (n ∷ []) < 2 ^ 64 → take (length (entries n D)) mem ≡ entries n D → rank < count D (n ∷ []) → (mid ≡ scenario D (n ∷ []) rank ++ drop D xs) × (sb ≡ boundaries (residual D (n ∷ []) rank)))
-    → ys ≡ replicate R (get_or mid 0 b) ++ drop R mid
-    → (ys ≡ scenario_of m n R rank ++ drop R xs) × (sb ≡ boundaries (residual_of m n R rank))
-sustained_told Sampled n R rank total D mem xs mid ys b sb q e p t f l c u y = absurd (let z : ◌≡◌ {A = ℕ} 0 1 = cc in omega arith)
-sustained_told Sustained n R rank total D mem xs mid ys b sb q e p t f l c u y =
-    let w = u (subst (λ k. k < 2 ^ 64) (t ∙ ap (λ k. count k (n ∷ [])) (sym e)) f)
-    (subst (λ k. take (length (entries n k)) mem ≡ entries n k) (sym e) c)
-    (subst (λ k. rank < k) (t ∙ ap (λ k. count k (n ∷ [])) (sym e)) l) in
-    let mids : mid ≡ scenario 1 (n ∷ []) rank ++ drop 1 xs = w.0 ∙ ap (λ k. scenario k (n ∷ []) rank ++ drop k xs) e in
-    (repeated_rounds R (get_or (scenario 1 (n ∷ []) rank) 0 b) b xs mid ys p mids y, w.1 ∙ ap (λ k. boundaries (residual k (n ∷ []) rank)) e)
+pub sustained_told : (p : Plan) (rank : ℕ) (xs mid ys : List RoundScenario) (b : RoundScenario) (s : CellState)
+    → p.mode ≡ Sustained → 0 < p.rounds → RoundsTold p.participants (depth_of p.mode p.rounds) rank xs s mid
+    → ys ≡ replicate p.rounds (get_or mid 0 b) ++ drop p.rounds mid → UnrankedTold p rank xs s ys
+sustained_told p rank xs mid ys b s q h t y = go p.mode q t
+  where
+    n : ℕ
+    n = p.participants
+
+    R : ℕ
+    R = p.rounds
+
+    go : (m : Mode) → m ≡ Sustained → RoundsTold n (depth_of m R) rank xs s mid
+        → (ys ≡ scenario_of m n R rank ++ drop R xs) × (s.boundaries ≡ boundaries (residual_of m n R rank))
+    go Sampled q t = absurd (let z : ◌≡◌ {A = ℕ} 0 1 = cc in omega arith)
+    go Sustained q t = (repeated_rounds R (get_or (scenario 1 (n ∷ []) rank) 0 b) b xs mid ys h t.0 y, t.1)
 
 -- the rank of rounds of the plan's shape
 
@@ -100,16 +96,33 @@ module _ (n R : ℕ) (rs script : List RoundScenario) (h : 0 < R) where
   ranked_by Sustained None s q l w =
       sustained_none n R rs h (λ a b. w (subst (AllByRecursion (LegalRound n)) (sym q) a) (subst (Canonical n) (sym q) b))
 
-pub ranked : (p : Plan) (total D : ℕ) (mem : List Slot) (rs script : List RoundScenario) (o : Option ℕ) → Counted p total mem → Shaped p.mode p.rounds rs → D ≡ depth_of p.mode p.rounds → script ≡ take D rs
-    → (count (length script) (p.participants ∷ []) < 2 ^ 64 → take (length (entries p.participants (length script))) mem ≡ entries p.participants (length script) → RankTold p.participants script o)
-    → Ranked p.mode p.participants p.rounds rs o
-ranked p total D mem rs script o c s e q f =
-    let n = p.participants in
-    let m = p.mode in
-    let R = p.rounds in
-    let h = (ruled p c.rules).2 in
-    let q' : script ≡ take (depth_of m R) rs = q ∙ ap (λ d. take d rs) e in
-    let l : length script ≡ depth_of m R = ap length q' ∙ length-take-le (depth_of m R) rs (depth_within m R rs h s) in
-    let small : count (length script) (n ∷ []) < 2 ^ 64 = subst (λ k. k < 2 ^ 64) (c.total_is ∙ ap (λ d. count d (n ∷ [])) (sym l)) c.fits in
-    let there : take (length (entries n (length script))) mem ≡ entries n (length script) = subst (λ d. take (length (entries n d)) mem ≡ entries n d) (sym l) c.entries_are in
-    ranked_by n R rs script h m o s q' l (f small there)
+-- as many rounds are ranked as were counted
+pub ranked_long : (p : Plan) (D : ℕ) (rs : List RoundScenario) → 0 < p.rounds → Shaped p.mode p.rounds rs → D ≡ depth_of p.mode p.rounds → length (take D rs) ≡ D
+ranked_long p D rs h s e = ap (λ d. length (take d rs)) e ∙ length-take-le (depth_of p.mode p.rounds) rs (depth_within p.mode p.rounds rs h s) ∙ sym e
+
+-- the rank of the rounds that are ranked is the rank of all
+pub rank_told : (p : Plan) (D : ℕ) (rs : List RoundScenario) (o : Option ℕ) → 0 < p.rounds → Shaped p.mode p.rounds rs × (length rs ≤ 64) → D ≡ depth_of p.mode p.rounds
+    → RankTold p.participants (take D rs) o → (r : Result ℕ Refusal) → r ≡ ok_or o NotCanonical → RankAnswered p rs r
+rank_told p D rs o h s e t r is = subst (RankAnswered p rs) (sym is) (go o (ranked_by p.participants p.rounds rs (take D rs) h p.mode o s.0 (ap (λ d. take d rs) e) (ranked_long p D rs h s.0 e ∙ e) t))
+  where
+    go : (o : Option ℕ) → Ranked p.mode p.participants p.rounds rs o → RankAnswered p rs (ok_or o NotCanonical)
+    go None n = inr ((λ _. 17), s.1, n)
+    go (Some k) n = n
+
+-- legal rounds are legal each, and rounds of the plan's shape that are legal each are a legal scenario
+each_of : (m : Mode) (n R : ℕ) (rs : List RoundScenario) → LegalIn m n R rs → AllByRecursion (LegalRound n) rs
+each_of Sampled n R rs l = l.each
+each_of Sustained n R rs l = l.0.each
+
+legal_from : (m : Mode) (n R : ℕ) (rs : List RoundScenario) → Shaped m R rs → AllByRecursion (LegalRound n) rs → LegalIn m n R rs
+legal_from Sampled n R rs s e = record { enough = s; each = e }
+legal_from Sustained n R rs s e = (record { enough = s.0; each = e }, s.1)
+
+-- the state after canonical rounds of the plan's shape, or the refusal where they are not canonical
+pub canonical_told : (p q : Plan) (rs : List RoundScenario) (o : Option CellState) → q ≡ p → fault_of q ≡ None → Shaped q.mode q.rounds rs × (length rs ≤ 64) → CanonicalTold q.participants rs o
+    → (r : Result CellState Refusal) → r ≡ ok_or o NotCanonical → CanonicalAnswered p rs r
+canonical_told p q rs o e f s t r is = subst (λ z. CanonicalAnswered z rs r) e (subst (CanonicalAnswered q rs) (sym is) (go o t))
+  where
+    go : (o : Option CellState) → CanonicalTold q.participants rs o → CanonicalAnswered q rs (ok_or o NotCanonical)
+    go None t = (f, inr ((λ _. 17), s.1, λ legal. t (each_of q.mode q.participants q.rounds rs legal)))
+    go (Some x) t = (f, legal_from q.mode q.participants q.rounds rs s.0 t.0, t.1, t.2)

@@ -23,15 +23,19 @@ pub record Counted (p : Plan) (total : ℕ) (ys : List Slot) : Type 0 where
   pub fits : total < 2 ^ 64
   pub entries_are : take (length (entries p.participants (depth_of p.mode p.rounds))) ys ≡ entries p.participants (depth_of p.mode p.rounds)
 
+-- a counted plan as contracts see it: the plan, its total, and the memory that holds its counts
+pub record CountedNumbers : Type 0 where
+  pub plan : Plan
+  pub total : ℕ
+  pub memory : List Slot
+
 -- the plan breaks no rule, and its scenarios are counted
 abbrev pub PlanCounted : Plan → List Slot → ℕ → List Slot → Type 0
 PlanCounted p xs v ys = Counted p v ys × CountedAs p.participants (depth_of p.mode p.rounds) xs v ys
 
--- the plan breaks a rule, and the memory is as it was; or it breaks none, and counting is refused
+-- the plan breaks no rule, and counting is refused
 abbrev pub PlanRefused : Plan → List Slot → Refusal → List Slot → Type 0
-PlanRefused p xs e ys =
-    ((fault_of p ≡ Some (number_of e)) × (ys ≡ xs))
-    ⊎ ((fault_of p ≡ None) × RefusedAs p.participants (depth_of p.mode p.rounds) xs e ys)
+PlanRefused p xs e ys = (fault_of p ≡ None) × RefusedAs p.participants (depth_of p.mode p.rounds) xs e ys
 
 -- the number of the first cause to refuse a scenario: memory too short, or no such rank
 abbrev pub scenario_fault : Plan → ℕ → ℕ → Option ℕ
@@ -48,9 +52,8 @@ ScenarioTold p rank xs (Ok s) ys =
 ScenarioTold p rank xs (Err e) ys = (scenario_fault p rank (length xs) ≡ Some (number_of e)) × (ys ≡ xs)
 
 -- the work of it, where the rank is below the total and the memory long enough
-abbrev pub UnrankedTold : Plan → ℕ → List RoundScenario → Option CellState → List RoundScenario → Type 0
-UnrankedTold p rank xs None ys = ⊥
-UnrankedTold p rank xs (Some s) ys =
+abbrev pub UnrankedTold : Plan → ℕ → List RoundScenario → CellState → List RoundScenario → Type 0
+UnrankedTold p rank xs s ys =
     (ys ≡ scenario_of p.mode p.participants p.rounds rank ++ drop p.rounds xs)
     × (s.boundaries ≡ boundaries (residual_of p.mode p.participants p.rounds rank))
 
@@ -65,9 +68,9 @@ abbrev pub Shaped : Mode → ℕ → List RoundScenario → Type 0
 Shaped Sampled R rs = length rs ≡ R
 Shaped Sustained R rs = (length rs ≡ R) × AllAlike rs
 
-abbrev pub ShapeTold : Plan → List RoundScenario → Option Refusal → Type 0
-ShapeTold p rs None = Shaped p.mode p.rounds rs × (length rs ≤ 64)
-ShapeTold p rs (Some e) = IsNotCanonical p rs e
+abbrev pub ShapeTold : Plan → List RoundScenario → Result Unit Refusal → Type 0
+ShapeTold p rs (Ok _) = Shaped p.mode p.rounds rs × (length rs ≤ 64)
+ShapeTold p rs (Err e) = IsNotCanonical p rs e
 
 -- the rank whose scenario these rounds are
 abbrev pub RankAnswered : Plan → List RoundScenario → Result ℕ Refusal → Type 0
@@ -78,4 +81,4 @@ RankAnswered p rs (Err e) = IsNotCanonical p rs e
 abbrev pub CanonicalAnswered : Plan → List RoundScenario → Result CellState Refusal → Type 0
 CanonicalAnswered p rs (Ok s) =
     (fault_of p ≡ None) × LegalIn p.mode p.participants p.rounds rs × Canonical p.participants rs × Residual p.participants rs s.boundaries
-CanonicalAnswered p rs (Err e) = (fault_of p ≡ Some (number_of e)) ⊎ ((fault_of p ≡ None) × IsNotCanonical p rs e)
+CanonicalAnswered p rs (Err e) = (fault_of p ≡ None) × IsNotCanonical p rs e

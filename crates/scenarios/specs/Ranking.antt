@@ -24,11 +24,6 @@ pub record FirstRank (r : ℕ) (cs : List ℕ) (t : Turn) (d v : ℕ) : Type 0 w
   pub splits : turns cs ≡ before ++ (t ∷ rest)
   pub is : v ≡ sum_of (λ u. weight u * count r (after u)) before + d * count r (after t)
 
--- the rank of that scenario is told
-abbrev pub FirstTold : ℕ → List ℕ → Turn → ℕ → Option ℕ → Type 0
-FirstTold r cs t d (Some v) = FirstRank r cs t d v
-FirstTold r cs t d None = ⊥
-
 -- the rank of the rounds; none only if they are not legal or not canonical
 abbrev pub RankTold : ℕ → List RoundScenario → Option ℕ → Type 0
 RankTold n rs (Some k) = (k < count (length rs) (n ∷ [])) × (scenario (length rs) (n ∷ []) k ≡ rs)

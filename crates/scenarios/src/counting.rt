@@ -200,20 +200,3 @@ pub(crate) fn count_in(n: usize, rounds: usize, slots: &mut [Slot]) -> Result<u6
     }
     Ok(first_value(slots))
 }
-
-// How many scenarios continue from a state after so many rounds, by the counts in the slots.
-pub(crate) fn suffix_count(slots: &[Slot], depth: usize, state: CellState) -> u64
-    ensures { (n rounds : ℕ) → take (length (counts.entries n rounds)) slots.now ≡ counts.entries n rounds → depth ≤ rounds → Among (counts.layer n depth) state.boundaries → result ≡ count (rounds - depth) (cells n state.boundaries) }
-{
-    value_of(slots, slots.len(), Place { depth, state })
-}
-
-// How many scenarios of so many rounds continue from a state at a depth. At the last depth there is one, with no search.
-pub(crate) fn continuations(slots: &[Slot], rounds: usize, depth: usize, state: CellState) -> u64
-    ensures { (n : ℕ) → take (length (counts.entries n rounds)) slots.now ≡ counts.entries n rounds → depth ≤ rounds → Among (counts.layer n depth) state.boundaries → result ≡ count (rounds - depth) (cells n state.boundaries) }
-{
-    if depth >= rounds {
-        return 1;
-    }
-    suffix_count(slots, depth, state)
-}

@@ -15,6 +15,7 @@ mod draw;
 mod edge;
 mod mask;
 mod mode;
+mod participants;
 mod place;
 mod plan;
 mod query;
@@ -24,6 +25,7 @@ mod refinement;
 mod repeat;
 mod role;
 mod round;
+mod suffixes;
 mod unrank;
 
 pub use cell::CellState;

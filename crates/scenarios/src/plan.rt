@@ -4,18 +4,9 @@ ghost use Rattle.refusals.specs.Refusals.{number_of};
 ghost use Rattle.scenarios.specs.Plans.{plan_fault, depth_of};
 
 use crate::mode::Mode;
+use crate::participants::Participants;
 use refusals::Refusal;
-
-// A plan that has been checked. It moves on when it is counted, so it is neither `Copy` nor `Clone`.
-// It has no invariant, so that it can come back beside lent memory: counting tests the rules again.
-#[derive(Drop)]
-pub struct Plan {
-    pub(crate) participants: usize,
-    pub(crate) faults: usize,
-    pub(crate) rounds: usize,
-    pub(crate) mode: Mode,
-    pub(crate) cap: u64,
-}
+use std::marker::Model;
 
 // The numbers of a plan, to be read and passed on.
 #[derive(Clone, Copy)]
@@ -27,32 +18,51 @@ pub struct PlanNumbers {
     pub cap: u64,
 }
 
-// The first rule that a plan breaks.
-pub(crate) fn fault_in(
-    participants: usize,
-    faults: usize,
-    rounds: usize,
-    cap: u64,
-) -> Option<Refusal>
-    ensures { elim result [ None ↦ plan_fault participants faults rounds cap ≡ None | Some e ↦ plan_fault participants faults rounds cap ≡ Some (number_of e) ] }
-{
-    if participants < 2 {
-        Some(Refusal::FewParticipants)
-    } else if participants > 64 {
-        Some(Refusal::ManyParticipants)
-    } else if faults == 0 {
-        Some(Refusal::NoFaults)
-    } else if faults >= participants {
-        Some(Refusal::ManyFaults)
-    } else if rounds == 0 {
-        Some(Refusal::NoRounds)
-    } else if cap == 0 {
-        Some(Refusal::NoCap)
-    } else if rounds > 64 {
-        Some(Refusal::ManyRounds)
-    } else {
-        None
+impl PlanNumbers {
+    // These numbers, unless they break a rule; the first rule broken is the refusal.
+    fn checked(self) -> Result<PlanNumbers, Refusal>
+        ensures { elim result [
+          | Ok p ↦ (p ≡ self) × (plan_fault self.participants self.faults self.rounds self.cap ≡ None)
+          | Err e ↦ plan_fault self.participants self.faults self.rounds self.cap ≡ Some (number_of e)
+        ] }
+    {
+        if self.participants < 2 {
+            Err(Refusal::FewParticipants)
+        } else if self.participants > 64 {
+            Err(Refusal::ManyParticipants)
+        } else if self.faults == 0 {
+            Err(Refusal::NoFaults)
+        } else if self.faults >= self.participants {
+            Err(Refusal::ManyFaults)
+        } else if self.rounds == 0 {
+            Err(Refusal::NoRounds)
+        } else if self.cap == 0 {
+            Err(Refusal::NoCap)
+        } else if self.rounds > 64 {
+            Err(Refusal::ManyRounds)
+        } else {
+            Ok(self)
+        }
     }
+}
+
+// A plan that has been checked: numbers that break no rule. It moves on when it is counted, so it is neither `Copy` nor
+// `Clone`.
+#[derive(Drop)]
+pub struct Plan {
+    numbers: PlanNumbers,
+}
+
+impl Model for Plan {
+    ghost use Rattle.std.specs.Prelude.{◌≡◌, None};
+    ghost use Rattle.scenarios.specs.Plans.{plan_fault};
+    ghost use Rattle.scenarios.specs.declared.plan.PlanNumbers.{PlanNumbers};
+
+    ghost Value = { PlanNumbers };
+
+    ghost view = { λ p. p.numbers };
+
+    ghost invariant = { λ p. plan_fault p.numbers.participants p.numbers.faults p.numbers.rounds p.numbers.cap ≡ None };
 }
 
 impl Plan {
@@ -70,15 +80,32 @@ impl Plan {
           | Err e ↦ plan_fault participants faults rounds cap ≡ Some (number_of e)
         ] }
     {
-        match fault_in(participants, faults, rounds, cap) {
-            Some(refusal) => Err(refusal),
-            None => Ok(Plan {
-                participants,
-                faults,
-                rounds,
-                mode,
-                cap,
-            }),
+        let numbers = PlanNumbers {
+            participants,
+            faults,
+            rounds,
+            mode,
+            cap,
+        };
+        Ok(Plan {
+            numbers: numbers.checked()?,
+        })
+    }
+
+    // All its numbers.
+    pub(crate) fn numbers(&self) -> PlanNumbers
+        ensures value { result ≡ self.now }
+        ensures ruled { plan_fault result.participants result.faults result.rounds result.cap ≡ None }
+    {
+        self.numbers
+    }
+
+    // How many participants there are, as a number that a mask has bits for.
+    pub(crate) fn size(&self) -> Participants
+        ensures { result.number ≡ self.now.participants }
+    {
+        Participants {
+            number: self.numbers.participants,
         }
     }
 
@@ -86,36 +113,36 @@ impl Plan {
     pub fn participants(&self) -> usize
         ensures { result ≡ self.now.participants }
     {
-        self.participants
+        self.numbers.participants
     }
 
     // How many participants are compromised.
     pub fn faults(&self) -> usize
         ensures { result ≡ self.now.faults }
     {
-        self.faults
+        self.numbers.faults
     }
 
     // How many rounds a scenario has.
     pub fn rounds(&self) -> usize
         ensures { result ≡ self.now.rounds }
     {
-        self.rounds
+        self.numbers.rounds
     }
 
     // How the rounds of a scenario are chosen.
     pub fn mode(&self) -> Mode
         ensures { result ≡ self.now.mode }
     {
-        self.mode
+        self.numbers.mode
     }
 
     // How many rounds are counted: in sustained mode one stands for all.
     pub(crate) fn depth(&self) -> usize
         ensures { result ≡ depth_of self.now.mode self.now.rounds }
     {
-        match self.mode {
-            Mode::Sampled => self.rounds,
+        match self.numbers.mode {
+            Mode::Sampled => self.numbers.rounds,
             Mode::Sustained => 1,
         }
     }
@@ -124,6 +151,6 @@ impl Plan {
     pub fn cap(&self) -> u64
         ensures { result ≡ self.now.cap }
     {
-        self.cap
+        self.numbers.cap
     }
 }

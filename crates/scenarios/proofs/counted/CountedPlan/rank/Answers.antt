@@ -1,34 +1,44 @@
-use Rattle.std.proofs.Common.{◌-◌, take, Some, None, refl, ap, inr, arith}
-use Rattle.scenarios.proofs.Querying.{ranked, corresponds}
+use Rattle.std.proofs.Common.{◌≤◌, length, take, sym, subst}
+use Rattle.std.proofs.lemmas.Result.{err_from_is_err_and}
+use Rattle.scenarios.specs.PlanCounts.{IsNotCanonical, Shaped}
+use Rattle.scenarios.specs.Ranking.{RankTold}
+use Rattle.scenarios.proofs.Querying.{ruled, ranked_long, rank_told, corresponds}
 use Rattle.scenarios.proofs.counted.CountedPlan.rank.Goals as goal
 
-pub returns-in-Some-shape_fault : goal.returns-in-Some-shape_fault
-returns-in-Some-shape_fault c =
+pub returns-in_err-check_shape : goal.returns-in_err-check_shape
+returns-in_err-check_shape c =
+    let n = c.numbers.ensures in
+    let e = c.in_err-check_shape.field-0.0 in
+    let p = err_from_is_err_and c.from_residual.result c.from_residual.ensures.1 in
     record {
-      told = λ k. c.in-Some-shape_fault.ensures;
-      corresponds = corresponds c.args.self.now.plan c.args.self.now.total c.args.self.now.memory.now;
+      told = rw (p.1, p.2) (subst (λ q. IsNotCanonical q c.args.rounds.now e) n.value c.in_err-check_shape.ensures);
+      corresponds = corresponds c.args.self.now.plan _ _ n.counted;
     }
 
-pub returns-in-Some-rank_in : goal.returns-in-Some-rank_in
-returns-in-Some-rank_in c =
-    let p = c.args.self.now.plan in
-    let total = c.args.self.now.total in
-    let mem = c.args.self.now.memory.now in
+pub slice_bounds-rank-end : goal.slice_bounds-rank-end
+slice_bounds-rank-end c =
     let rs = c.args.rounds.now in
-    let d = c.depth.result in
-    record {
-      told = λ k. ranked p total d mem rs (take (d - 0) rs) (Some c.in-Some-rank_in.rank) k c.in_default-shape_fault.ensures.0 c.depth.ensures (ap (λ e. take e rs) (omega arith)) c.in-Some-rank_in.ensures;
-      corresponds = corresponds p total mem;
-    }
+    let n = c.numbers.ensures in
+    let shaped = subst (λ q. Shaped q.mode q.rounds rs × (length rs ≤ 64)) n.value c.in_ok-check_shape.ensures in
+    sym (ranked_long c.args.self.now.plan c.counts-counts.result.rounds rs (ruled c.args.self.now.plan n.counted.rules).2 shaped.0 c.counts-counts.ensures.1)
 
-pub returns-in-None : goal.returns-in-None
-returns-in-None c =
-    let p = c.args.self.now.plan in
-    let total = c.args.self.now.total in
-    let mem = c.args.self.now.memory.now in
+pub rank-requires : goal.rank-requires
+rank-requires c =
     let rs = c.args.rounds.now in
-    let d = c.depth.result in
+    let n = c.numbers.ensures in
+    let shaped = subst (λ q. Shaped q.mode q.rounds rs × (length rs ≤ 64)) n.value c.in_ok-check_shape.ensures in
+    ranked_long c.args.self.now.plan c.counts-counts.result.rounds rs (ruled c.args.self.now.plan n.counted.rules).2 shaped.0 c.counts-counts.ensures.1
+
+pub returns : goal.returns
+returns c =
+    let p = c.args.self.now.plan in
+    let rs = c.args.rounds.now in
+    let n = c.numbers.ensures in
+    let shaped = subst (λ q. Shaped q.mode q.rounds rs × (length rs ≤ 64)) n.value c.in_ok-check_shape.ensures in
+    let size = c.counts-counts.ensures in
     record {
-      told = λ k. inr (refl, c.in_default-shape_fault.ensures.1, ranked p total d mem rs (take (d - 0) rs) None k c.in_default-shape_fault.ensures.0 c.depth.ensures (ap (λ e. take e rs) (omega arith)) c.in-None.ensures);
-      corresponds = corresponds p total mem;
+      told =
+          rank_told p c.counts-counts.result.rounds rs c.rank.result (ruled p n.counted.rules).2 shaped size.1
+          (subst (λ k. RankTold k (take c.counts-counts.result.rounds rs) c.rank.result) size.0 c.rank.ensures) c.ok_or.result c.ok_or.ensures.value;
+      corresponds = corresponds p _ _ n.counted;
     }

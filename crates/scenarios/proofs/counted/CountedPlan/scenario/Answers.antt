@@ -1,49 +1,34 @@
-use Rattle.std.proofs.Common.{◌≡◌, ℕ, ◌<◌, ◌≤◌, sym, refl, ◌∙◌, subst, arith}
+use Rattle.std.proofs.Common.{◌<◌, ◌≤◌, length, refl, ◌∙◌, subst}
 use Rattle.scenarios.proofs.Querying.{fault_short, fault_past, fault_none, corresponds}
 use Rattle.scenarios.proofs.counted.CountedPlan.scenario.Goals as goal
 
-pub returns-in-Some : goal.returns-in-Some
-returns-in-Some c =
+pub returns-then-rounds-numbers : goal.returns-then-rounds-numbers
+returns-then-rounds-numbers c =
     let p = c.args.self.now.plan in
+    let n = c.numbers.ensures in
     record {
-      told = λ k. absurd (let e = sym k.rules ∙ c.in-Some.ensures in let z : ◌≡◌ {A = ℕ} 0 1 = cc in omega arith);
-      corresponds = corresponds p c.args.self.now.total c.args.self.now.memory.now;
+      told = (fault_short p c.args.rank _ (subst (λ q. length c.args.rounds.now < q.rounds) n.value c.if-rounds-numbers.true), refl);
+      corresponds = corresponds p _ _ n.counted;
     }
 
-pub returns-then-rounds-plan : goal.returns-then-rounds-plan
-returns-then-rounds-plan c =
+pub returns-then-rank-total : goal.returns-then-rank-total
+returns-then-rank-total c =
     let p = c.args.self.now.plan in
+    let n = c.numbers.ensures in
+    let enough = subst (λ q. q.rounds ≤ length c.args.rounds.now) n.value c.if-rounds-numbers.false in
     record {
-      told = λ k. (fault_short p c.args.rank _ c.if-rounds-plan.true, refl);
-      corresponds = corresponds p c.args.self.now.total c.args.self.now.memory.now;
+      told = (fault_past p c.args.rank _ enough (subst (λ t. t ≤ c.args.rank) (c.total.ensures.value ∙ n.counted.total_is) c.if-rank-total.true), refl);
+      corresponds = corresponds p _ _ n.counted;
     }
 
-pub returns-then-rank-self : goal.returns-then-rank-self
-returns-then-rank-self c =
+pub returns : goal.returns
+returns c =
     let p = c.args.self.now.plan in
+    let n = c.numbers.ensures in
+    let enough = subst (λ q. q.rounds ≤ length c.args.rounds.now) n.value c.if-rounds-numbers.false in
+    let below = subst (λ t. c.args.rank < t) (c.total.ensures.value ∙ n.counted.total_is) c.if-rank-total.false in
+    let both = corresponds p _ _ n.counted in
     record {
-      told = λ k. (fault_past p c.args.rank _ c.if-rounds-plan.false (subst (λ t. t ≤ c.args.rank) k.total_is c.if-rank-self.true), refl);
-      corresponds = corresponds p c.args.self.now.total c.args.self.now.memory.now;
-    }
-
-pub returns-in-None : goal.returns-in-None
-returns-in-None c =
-    let p = c.args.self.now.plan in
-    record {
-      told = λ k. absurd (c.in-None.ensures c.args.self.now.total k c.if-rank-self.false);
-      corresponds = corresponds p c.args.self.now.total c.args.self.now.memory.now;
-    }
-
-pub returns-in-Some-unrank_plan : goal.returns-in-Some-unrank_plan
-returns-in-Some-unrank_plan c =
-    let p = c.args.self.now.plan in
-    let total = c.args.self.now.total in
-    let mem = c.args.self.now.memory.now in
-    record {
-      told = λ k.
-          let u = c.in-Some-unrank_plan.ensures total k c.if-rank-self.false in
-          let below = subst (λ t. c.args.rank < t) k.total_is c.if-rank-self.false in
-          let both = corresponds p total mem k in
-          (fault_none p c.args.rank _ c.if-rounds-plan.false below, u.0, u.1, both.legal c.args.rank below, both.canonical c.args.rank below);
-      corresponds = corresponds p total mem;
+      told = (fault_none p c.args.rank _ enough below, c.unrank.ensures.0, c.unrank.ensures.1, both.legal c.args.rank below, both.canonical c.args.rank below);
+      corresponds = both;
     }
