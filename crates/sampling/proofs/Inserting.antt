@@ -1,15 +1,11 @@
--- One rank more in the table of ranks.
-use Rattle.std.proofs.Common.{◌≡◌, ℕ, zero, suc, ◌<◌, min, Bool, true, false, ◌||◌, eqb, ◌≢◌, List, [], ◌∷◌, map, length, get_or, take, set, Some, None, sym, refl, ap, ◌∙◌, arith}
-use Rattle.std.proofs.lemmas.List.{get_or-take, length-map, length-take-le}
-use Rattle.std.proofs.lemmas.Bool.{eq-eqb, ne_eqb, true≢false, cond-true, cond-false}
-use Rattle.table.specs.declared.Adding.{Adding}
-use Rattle.table.specs.declared.Adding.TheVariants.{Added, There, Full}
-use Rattle.table.specs.Places.{Place, AddedAs}
+-- Members of a list, by place, and of a table of ranks.
+use Rattle.std.proofs.Common.{◌≡◌, ℕ, zero, suc, ◌<◌, Bool, true, false, ◌||◌, eqb, ◌≢◌, List, [], ◌∷◌, map, length, get_or, Some, None, sym, refl, ap, ◌∙◌, arith}
+use Rattle.std.proofs.lemmas.List.{length-map, get_or-map}
+use Rattle.std.proofs.lemmas.Bool.{eq-eqb, ne_eqb, cond-true, cond-false}
+use Rattle.table.specs.Places.{Place}
 use Rattle.orders.specs.Members.{member}
 use Rattle.sampling.specs.Floyd.{inserted}
 use Rattle.sampling.specs.Samples.{Slot, slot}
-
--- members of a list, by place
 
 pub member_at : (s : List ℕ) (i x : ℕ) → i < length s → get_or s i 0 ≡ x → member s x ≡ true
 member_at [] i x h e = absurd (omega arith)
@@ -24,46 +20,24 @@ pub member_none : (s : List ℕ) (x : ℕ) → ((i : ℕ) → i < length s → g
 member_none [] x h = refl
 member_none (y ∷ s) x h = ap (λ b. b || member s x) (ne_eqb y x (h 0 (omega arith))) ∙ member_none s x (λ i l. h (suc i) (omega arith))
 
--- the first n slots hold the ranks s
-module _ (xs : List Slot) (s : List ℕ) (n : ℕ) (room : n < length xs) (holds : take n xs ≡ map slot s) where
-  getD_slots : (ss : List ℕ) (i : ℕ) → get_or (map slot ss) i (slot 0) ≡ slot (get_or ss i 0)
-  getD_slots [] i = refl
-  getD_slots (x ∷ ss) zero = refl
-  getD_slots (x ∷ ss) (suc i) = getD_slots ss i
+-- a search of the ranks s for x; where it finds x, the bound j is inserted, else x
+module _ (xs : List Slot) (s : List ℕ) (holds : xs ≡ map slot s) (x j : ℕ) where
+  abbrev Is : Slot → Type 0
+  Is e = (e.key ∷ []) ≡ x ∷ []
 
-  pub as_many : length s ≡ n
-  as_many = sym (length-map s slot) ∙ ap length (sym holds) ∙ length-take-le n xs (omega arith)
+  as_many : length xs ≡ length s
+  as_many = ap length holds ∙ length-map s slot
 
-  slot_at : (i : ℕ) → i < n → get_or xs i (slot 0) ≡ slot (get_or s i 0)
-  slot_at i h = sym (get_or-take n xs i (slot 0) h) ∙ ap (λ l. get_or l i (slot 0)) holds ∙ getD_slots s i
+  slot_at : (i : ℕ) → i < length xs → get_or xs i (slot 0) ≡ slot (get_or s i 0)
+  slot_at i h = ap (λ l. get_or l i (slot 0)) holds ∙ get_or-map slot s i 0 (slot 0) (omega (arith, as_many))
 
-  abbrev Is : ℕ → Slot → Type 0
-  Is x e = (e.key ∷ []) ≡ x ∷ []
+  pub inserted_bound : (i : ℕ) → Place Is xs (length xs) (Some i) → j ≡ inserted s x j
+  inserted_bound i p =
+      let q = slot_at i p.0 in
+      let e : ((get_or xs i (slot 0)).key ∷ []) ≡ x ∷ [] = p.1 (slot 0) in
+      sym (cond-true (member s x) j x (member_at s i x (omega (arith, as_many, p.0)) (let k : get_or s i 0 ≡ x = cc in k)))
 
-  found : (x : ℕ) → ((i : ℕ) × Place (Is x) xs (min n (length xs)) (Some i)) → member s x ≡ true
-  found x p =
-      let h : p.0 < n = omega (arith, p.1.0) in
-      let q = slot_at p.0 h in
-      let e : ((get_or xs p.0 (slot 0)).key ∷ []) ≡ x ∷ [] = p.1.1 (slot 0) in
-      member_at s p.0 x (omega (arith, as_many)) (let k : get_or s p.0 0 ≡ x = cc in k)
-
-  missed : (x : ℕ) → Place (Is x) xs (min n (length xs)) None → member s x ≡ false
-  missed x none = member_none s x (λ i h e.
-      let l : i < n = omega (arith, as_many) in
-      none i (slot 0) (omega arith) (omega arith) (ap (λ t. t.key ∷ []) (slot_at i l) ∙ ap (λ k. k ∷ []) e))
-
-  -- a rank that is not there is written behind the others
-  pub added_new : (x : ℕ) (r : Adding) (ys : List Slot) → AddedAs (Is x) (slot x) xs (min n (length xs)) r ys → member s x ≡ false → ys ≡ set xs n (slot x)
-  added_new x (Added i) ys a m = a.3 ∙ ap (λ k. set xs k (slot x)) (let e : min n (length xs) ≡ n = omega arith in e)
-  added_new x There ys a m = absurd (true≢false (sym (found x a.0) ∙ m))
-  added_new x Full ys a m = absurd (omega (arith, a.0))
-
-  -- unless the rank drawn is there, it is what is inserted
-  pub inserted_new : (x j : ℕ) (r : Adding) (ys : List Slot) → AddedAs (Is x) (slot x) xs (min n (length xs)) r ys → (r ≡ There → ⊥) → ys ≡ set xs n (slot (inserted s x j))
-  inserted_new x j (Added i) ys a h = added_new x (Added i) ys a (missed x a.2) ∙ ap (λ k. set xs n (slot k)) (sym (cond-false (member s x) j x (missed x a.2)))
-  inserted_new x j There ys a h = absurd (h refl)
-  inserted_new x j Full ys a h = absurd (omega (arith, a.0))
-
-  -- and if it is there, the bound is
-  pub inserted_bound : (x j : ℕ) (r : Adding) (ys : List Slot) → ((i : ℕ) × Place (Is x) xs (min n (length xs)) (Some i)) → AddedAs (Is j) (slot j) xs (min n (length xs)) r ys → member s j ≡ false → ys ≡ set xs n (slot (inserted s x j))
-  inserted_bound x j r ys p a m = added_new j r ys a m ∙ ap (λ k. set xs n (slot k)) (sym (cond-true (member s x) j x (found x p)))
+  pub inserted_new : Place Is xs (length xs) None → x ≡ inserted s x j
+  inserted_new none = sym (cond-false (member s x) j x (member_none s x (λ i h e.
+      let l : i < length xs = omega (arith, as_many) in
+      none i (slot 0) (omega arith) l (ap (λ t. t.key ∷ []) (slot_at i l) ∙ ap (λ k. k ∷ []) e))))

@@ -41,16 +41,15 @@ module _ (total m : ℕ) (w : Words) (xs : List Slot) (fits : m ≤ total) (room
     ahead : bound < total → After (bounds total m) w p.numbers (bound ∷ range_with_len (bound + 1) (total - (bound + 1))) w'
     ahead h = subst (λ k. After (bounds total m) w p.numbers (range_with_len bound k) w') (let e : total - bound ≡ suc (total - (bound + 1)) = omega arith in e) p.drawn
 
-    pub part_more : (t : ℕ) (w'' : Words) (ys' : List Slot) → bound < total → draw bound w' ≡ record { number = Some t; rest = w'' }
-        → ((s : List ℕ) → bound - (total - m) < length ys → take (bound - (total - m)) ys ≡ map slot s → member s bound ≡ false → ys' ≡ set ys (bound - (total - m)) (slot (inserted s t bound)))
-        → PartSampled total m w xs (bound + 1) w'' ys'
-    part_more t w'' ys' h e wrote = record {
+    pub part_more : (t : ℕ) (w'' : Words) (len next r : ℕ) → bound < total → next ≡ bound + 1 → draw bound w' ≡ record { number = Some t; rest = w'' } → bound ≡ total - m + len
+        → ((s : List ℕ) → take len ys ≡ map slot s → r ≡ inserted s t bound) → PartSampled total m w xs next w'' (set ys len (slot r))
+    part_more t w'' len next r h one e at picked = subst (λ b. PartSampled total m w xs b w'' (set ys len (slot r))) (sym one) (record {
       numbers = p.numbers ++ (t ∷ []);
       drawn = after_more (bounds total m) p.numbers (range_with_len (bound + 1) (total - (bound + 1))) bound t w w' w'' (ahead h) e;
       place = let l = length-append p.numbers (t ∷ []) in let q = p.place in omega arith;
       slots = written;
       so_far = subst (λ u. Sample (bound + 1) (p.numbers ++ (t ∷ [])) u) (sym pushed) (sample_more bound t p.numbers s (let q = p.place in omega arith) (draw_below bound t w' w'' e) p.so_far);
-    }
+    })
       where
         s : List ℕ
         s = inserting [] (total - m) p.numbers
@@ -58,24 +57,21 @@ module _ (total m : ℕ) (w : Words) (xs : List Slot) (fits : m ≤ total) (room
         pushed : inserting [] (total - m) (p.numbers ++ (t ∷ [])) ≡ s ++ (inserted s t bound ∷ [])
         pushed = inserting_push [] (total - m) t p.numbers ∙ ap (λ k. s ++ (inserted s t k ∷ [])) (sym p.place)
 
-        len : bound - (total - m) ≡ length p.numbers
-        len = let q = p.place in omega arith
+        so_many : len ≡ length p.numbers
+        so_many = let q = p.place in omega arith
 
         front : length (map slot s) ≡ length p.numbers
         front = length-map s slot ∙ p.so_far.as_many
 
-        long : length ys ≡ length xs
-        long = ap length p.slots ∙ length-append (map slot s) (drop (length p.numbers) xs) ∙ (let a = front in let b = length-drop (length p.numbers) xs in let q = p.place in omega arith)
+        new : r ≡ inserted s t bound
+        new = picked s (ap (λ k. take k ys) so_many ∙ ap (take (length p.numbers)) p.slots ∙ take_at (map slot s) (drop (length p.numbers) xs) (length p.numbers) front)
 
-        fresh : member s bound ≡ false
-        fresh = member_none s bound (λ i l q. let b = All-get_or (λ y. y < bound) s i 0 l p.so_far.below in omega arith)
-
-        written : ys' ≡ map slot (inserting [] (total - m) (p.numbers ++ (t ∷ []))) ++ drop (length (p.numbers ++ (t ∷ []))) xs
+        written : set ys len (slot r) ≡ map slot (inserting [] (total - m) (p.numbers ++ (t ∷ []))) ++ drop (length (p.numbers ++ (t ∷ []))) xs
         written =
-            wrote s (omega (arith, long, p.place)) (ap (λ k. take k ys) len ∙ ap (take (length p.numbers)) p.slots ∙ take_at (map slot s) (drop (length p.numbers) xs) (length p.numbers) front) fresh
-            ∙ ap (λ k. set ys k (slot (inserted s t bound))) len
-            ∙ ap (λ l. set l (length p.numbers) (slot (inserted s t bound))) p.slots
-            ∙ write_more (map slot s) xs (length p.numbers) (slot (inserted s t bound)) front (omega (arith, p.place))
+            ap (λ k. set ys k (slot r)) so_many
+            ∙ ap (λ l. set l (length p.numbers) (slot r)) p.slots
+            ∙ write_more (map slot s) xs (length p.numbers) (slot r) front (omega (arith, p.place))
+            ∙ ap (λ k. (map slot s ++ slot k ∷ []) ++ drop (length p.numbers + 1) xs) new
             ∙ ap (λ l. l ++ drop (length p.numbers + 1) xs) (sym (ap (map slot) pushed ∙ map-append slot s (inserted s t bound ∷ [])))
             ∙ ap (λ k. map slot (inserting [] (total - m) (p.numbers ++ (t ∷ []))) ++ drop k xs) (sym (length-append p.numbers (t ∷ [])))
 
@@ -86,10 +82,10 @@ module _ (total m : ℕ) (w : Words) (xs : List Slot) (fits : m ≤ total) (room
         let q = p.place in
         (rw n (omega arith), sym (ap (λ d. d.rest) a))
 
-  pub part_all : (w' : Words) (ys : List Slot) → PartSampled total m w xs total w' ys → Sampled total m w xs w' ys
+  pub part_all : (bound : ℕ) (w' : Words) (ys : List Slot) → bound ≡ total → PartSampled total m w xs bound w' ys → Sampled total m w xs w' ys
   unfolding sample
-  part_all w' ys p =
-      let a = after_all (bounds total m) p.numbers w w' (subst (λ k. After (bounds total m) w p.numbers (range_with_len total k) w') (let e : total - total ≡ 0 = omega arith in e) p.drawn) in
+  part_all bound w' ys last p =
+      let a = after_all (bounds total m) p.numbers w w' (subst (λ k. After (bounds total m) w p.numbers (range_with_len bound k) w') (let e : total - bound ≡ 0 = omega arith in e) p.drawn) in
       let n : (draws (bounds total m) w).numbers ≡ p.numbers = ap (λ d. d.numbers) a in
       let q = p.place in
       let l : length p.numbers ≡ m = omega arith in
@@ -102,5 +98,5 @@ module _ (total m : ℕ) (w : Words) (xs : List Slot) (fits : m ≤ total) (room
             ∙ ap (λ j. map slot (inserting [] j p.numbers) ++ drop (length p.numbers) xs) (sym first)
             ∙ ap (λ k. map slot (sample total p.numbers) ++ drop k xs) l
             ∙ ap (λ ts. map slot (sample total ts) ++ drop m xs) (sym n);
-        fair = rw (n, first) p.so_far;
+        fair = rw (n, first) (subst (λ b. Sample b p.numbers (inserting [] (total - m) p.numbers)) last p.so_far);
       }

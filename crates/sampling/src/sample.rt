@@ -5,18 +5,19 @@ ghost use Rattle.sampling.specs.Floyd.{inserted};
 ghost use Rattle.sampling.specs.Samples as samples;
 
 use refusals::Refusal;
-use table::{Adding, Entry, add};
+use table::{Entry, find};
 use words::{Source, draw_up_to};
 
 // A slot of rank memory: a rank, with nothing kept for it.
 pub type RankSlot = Entry<u64, ()>;
 
-// Writes the number drawn behind the first `len` ranks or, where it is among them, the bound, which is not.
-fn insert(ranks: &mut [RankSlot], len: usize, drawn: u64, bound: u64)
-    ensures { (s : List ℕ) → len < length ranks.old → take len ranks.old ≡ map samples.slot s → member s bound ≡ false → ranks.new ≡ slice_set ranks.old len (samples.slot (inserted s drawn bound)) }
+// What goes behind the ranks taken so far: the number drawn or, where it is among them, the bound.
+fn pick(taken: &[RankSlot], drawn: u64, bound: u64) -> u64
+    ensures { (s : List ℕ) → taken.now ≡ map samples.slot s → result ≡ inserted s drawn bound }
 {
-    if let Adding::There = add(ranks, len, drawn, ()) {
-        add(ranks, len, bound, ());
+    match find(taken, &drawn) {
+        Some(_) => bound,
+        None => drawn,
     }
 }
 
@@ -35,9 +36,12 @@ pub fn sample_unique_indices<S: Source>(
         return Err(Refusal::RankMemory);
     }
     let first = total - many;
-    for bound in first..total {
+    for (len, bound) in (first..total).enumerate() {
         match draw_up_to(source, bound) {
-            Ok(drawn) => insert(ranks, (bound - first) as usize, drawn, bound),
+            Ok(drawn) => {
+                let key = pick(&ranks[..len], drawn, bound);
+                ranks[len] = Entry { key, value: () };
+            }
             Err(refusal) => {
                 ranks.fill(Entry { key: 0, value: () });
                 return Err(refusal);

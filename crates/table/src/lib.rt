@@ -21,39 +21,38 @@ pub struct Entry<K, V> {
     pub value: V,
 }
 
-// What became of an entry: written at a place, not written since its key is there, or since no slot is left.
-#[derive(Clone, Copy)]
-pub enum Adding {
-    Added(usize),
+// Why an entry was not written: its key is there, or no slot is left.
+#[derive(Clone, Copy, PartialEq, Eq, Debug)]
+pub enum NotAdded {
     There,
     Full,
 }
 
-// The first place in use whose key is the same as `key`.
-pub fn find<K: Key, V>(slots: &[Entry<K, V>], len: usize, key: &K) -> Option<usize>
-    ensures { Place (λ e. K.meaning e.key ≡ K.meaning key.now) slots.now (min len (length slots.now)) result }
+// The first of these entries whose key is the same as `key`.
+pub fn find<K: Key, V>(entries: &[Entry<K, V>], key: &K) -> Option<usize>
+    ensures { Place (λ e. K.meaning e.key ≡ K.meaning key.now) entries.now (length entries.now) result }
 {
-    let n = len.min(slots.len());
-    for i in 0..n {
-        if slots[i].key.same(key) {
-            return Some(i);
-        }
-    }
-    None
+    entries.iter().position(|entry| entry.key.same(key))
 }
 
-// Writes an entry behind those in use, unless its key is among them or no slot is left; no other slot changes.
-pub fn add<K: Key, V: Copy>(slots: &mut [Entry<K, V>], len: usize, key: K, value: V) -> Adding
+// Writes an entry behind those in use and answers its place, unless its key is among them or no slot is left; no other slot changes.
+// The slots stay beside their `len`, since they are lent memory: a list that is lent by `&mut` could not tell what it leaves in them.
+pub fn add<K: Key, V: Copy>(
+    slots: &mut [Entry<K, V>],
+    len: usize,
+    key: K,
+    value: V,
+) -> Result<usize, NotAdded>
     ensures { AddedAs (λ e. K.meaning e.key ≡ K.meaning key) (record { key = key; value = value }) slots.old (min len (length slots.old)) result slots.new }
 {
-    if let Some(_) = find(slots, len, &key) {
-        return Adding::There;
+    if find(&slots[..len.min(slots.len())], &key).is_some() {
+        return Err(NotAdded::There);
     }
     if len >= slots.len() {
-        return Adding::Full;
+        return Err(NotAdded::Full);
     }
     slots[len] = Entry { key, value };
-    Adding::Added(len)
+    Ok(len)
 }
 
 // A number is a key that stands for itself.
