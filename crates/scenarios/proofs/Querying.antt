@@ -14,13 +14,12 @@ use Rattle.scenarios.specs.declared.mode.Mode.{Mode}
 use Rattle.scenarios.specs.declared.mode.Mode.TheVariants.{Sampled, Sustained}
 use Rattle.scenarios.specs.declared.plan.Plan.{Plan}
 use Rattle.scenarios.specs.declared.round.RoundScenario.{RoundScenario}
-use Rattle.scenarios.specs.Counting.{Slot, CountedAs}
+use Rattle.scenarios.specs.Counting.{Slot}
 use Rattle.scenarios.specs.Cells.{boundaries}
 use Rattle.scenarios.specs.Scenarios.{count, scenario}
 use Rattle.scenarios.specs.Plans.{depth_of, total_of, scenario_of, residual_of, repeated, LegalIn, CorrespondsIn}
 use Rattle.scenarios.specs.PlanCounts.{fault_of, Counted, UnrankedTold, scenario_fault, Shaped, RankAnswered, CanonicalAnswered}
 use Rattle.scenarios.proofs.Planning.{plan_sound}
-use Rattle.scenarios.proofs.Finding.{counted_front}
 use Rattle.scenarios.proofs.Modes.{repeated_one, corresponds_in, sustained_back, sustained_none}
 
 -- in sustained mode the one round is repeated

@@ -1,5 +1,5 @@
 -- What the slots hold while counting goes on.
-use Rattle.std.specs.Prelude.{◌≡◌, ℕ, ◌*◌, ◌^◌, ◌<◌, ◌≤◌, min, Bool, true, false, List, [], ◌∷◌, map, length, get_or, take, drop, Some, None, Option, slice_index_or}
+use Rattle.std.specs.Prelude.{◌≡◌, ℕ, ◌*◌, ◌^◌, ◌<◌, ◌≤◌, min, List, [], ◌∷◌, map, length, get_or, take, drop, Some, None, Option, slice_index_or}
 use Rattle.scenarios.specs.Cells.{boundaries}
 use Rattle.scenarios.specs.Turns.{Turn, weight, after}
 use Rattle.scenarios.specs.Fits.{Among}
@@ -57,6 +57,6 @@ FitsAs v (Some x) = x ≡ v
 FitsAs v None = 2 ^ 64 ≤ v
 
 -- each place has its count, or the total does not fit
-abbrev pub SettledOr : ℕ → ℕ → ℕ → List Slot → Bool → List Slot → Type 0
-SettledOr n R len xs true ys = Settled n R (places n R) len 0 xs ys
-SettledOr n R len xs false ys = 2 ^ 64 ≤ count R (n ∷ [])
+abbrev pub SettledOr : ℕ → ℕ → ℕ → List Slot → Option Unit → List Slot → Type 0
+SettledOr n R len xs (Some _) ys = Settled n R (places n R) len 0 xs ys
+SettledOr n R len xs None ys = 2 ^ 64 ≤ count R (n ∷ [])

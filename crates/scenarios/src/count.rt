@@ -15,8 +15,7 @@ impl Plan {
           | Err e ↦ (e.plan ≡ self) × PlanRefused self memory.old e.refusal e.memory.now
         ] }
     {
-        let numbers = self.numbers();
-        match count_in(numbers.participants, self.depth(), memory) {
+        match count_in(self.size(), self.depth(), memory) {
             Ok(total) => Ok(CountedPlan {
                 plan: self,
                 total,

@@ -9,8 +9,9 @@ ghost use Rattle.scenarios.specs.Slots as slot;
 
 use crate::cell::CellState;
 use crate::edge::Edges;
+use crate::participants::Participants;
 use refusals::Refusal;
-use table::{Adding, Entry, Key, add, find};
+use table::{Entry, Key, NotAdded, add, find};
 
 // A residual state after so many rounds.
 #[derive(Clone, Copy)]
@@ -31,20 +32,14 @@ impl Key for Place {
 // A place, and how many scenarios continue from it.
 pub type Slot = Entry<Place, u64>;
 
-// Zero in each slot.
-fn clear(slots: &mut [Slot])
-    ensures { slots.new ≡ replicate (length slots.old) counts.zero_slot }
-{
-    for i in 0..slots.len() {
-        slots[i] = Entry {
-            key: Place {
-                depth: 0,
-                state: CellState { boundaries: 0 },
-            },
-            value: 0,
-        };
-    }
-}
+// No rounds, and no scenario: what an empty slot holds.
+const ZERO: Slot = Entry {
+    key: Place {
+        depth: 0,
+        state: CellState { boundaries: 0 },
+    },
+    value: 0,
+};
 
 // Notes a place behind those that the first `len` slots hold, unless it is among them.
 // The answer is how many slots are in use then, or None where no slot is left for it.
@@ -52,28 +47,30 @@ fn note_place(slots: &mut [Slot], len: usize, place: Place) -> Option<usize>
     ensures { (ps : List Place) (xs : List counts.Slot) → slot.Holds ps len xs slots.old → slot.Kept (counts.note counts.same_place ps place) xs result slots.new }
 {
     match add(slots, len, place, 0) {
-        Adding::Added(_) => Some(len + 1),
-        Adding::There => Some(len),
-        Adding::Full => None,
+        Ok(at) => Some(at + 1),
+        Err(NotAdded::There) => Some(len),
+        Err(NotAdded::Full) => None,
     }
 }
 
-// The count that the first `len` slots hold for a place, or 0.
-pub(crate) fn value_of(slots: &[Slot], len: usize, place: Place) -> u64
-    ensures { slot.Valued place len slots.now result }
+// The count that these slots hold for a place, or 0.
+pub(crate) fn value_of(slots: &[Slot], place: Place) -> u64
+    ensures { slot.Valued place (length slots.now) slots.now result }
 {
-    match find(slots, len, &place) {
-        Some(i) => slots[i].value,
-        None => 0,
-    }
+    find(slots, &place).map_or(0, |i| slots[i].value)
 }
 
 // Notes the places at a depth after one more round from a place.
-fn note_nexts(n: usize, depth: usize, place: Place, slots: &mut [Slot], len: usize) -> Option<usize>
-    requires { (0 < n) × (n ≤ 64) }
-    ensures { (ps : List Place) (xs : List counts.Slot) → slot.Holds ps len xs slots.old → slot.Kept (counts.noted counts.same_place ps (slot.afters n depth place)) xs result slots.new }
+fn note_nexts(
+    participants: Participants,
+    depth: usize,
+    place: Place,
+    slots: &mut [Slot],
+    len: usize,
+) -> Option<usize>
+    ensures { (ps : List Place) (xs : List counts.Slot) → slot.Holds ps len xs slots.old → slot.Kept (counts.noted counts.same_place ps (slot.afters participants.number depth place)) xs result slots.new }
 {
-    let mut edges = Edges::of(n, place.state);
+    let mut edges = Edges::of(participants.number, place.state);
     let mut used = len;
     loop {
         used = note_place(
@@ -91,34 +88,32 @@ fn note_nexts(n: usize, depth: usize, place: Place, slots: &mut [Slot], len: usi
 }
 
 // Notes the places at a depth after one more round from each place in the slots from `from` to `len`.
-fn note_layer(n: usize, depth: usize, slots: &mut [Slot], from: usize, len: usize) -> Option<usize>
-    requires { (0 < n) × ((n ≤ 64) × ((from ≤ len) × (len ≤ length slots.old))) }
-    ensures { (ps : List Place) (xs : List counts.Slot) → slot.Holds ps len xs slots.old → slot.Kept (counts.noted counts.same_place ps (flat_map (slot.afters n depth) (drop from ps))) xs result slots.new }
+fn note_layer(
+    participants: Participants,
+    depth: usize,
+    slots: &mut [Slot],
+    from: usize,
+    len: usize,
+) -> Option<usize>
+    requires { (from ≤ len) × (len ≤ length slots.old) }
+    ensures { (ps : List Place) (xs : List counts.Slot) → slot.Holds ps len xs slots.old → slot.Kept (counts.noted counts.same_place ps (flat_map (slot.afters participants.number depth) (drop from ps))) xs result slots.new }
 {
     let mut used = len;
     for i in from..len {
-        used = note_nexts(n, depth, slots[i].key, slots, used)?;
+        used = note_nexts(participants, depth, slots[i].key, slots, used)?;
     }
     Some(used)
 }
 
 // Notes all places that rounds can lead to, depth by depth.
-fn discover(n: usize, rounds: usize, slots: &mut [Slot]) -> Option<usize>
-    requires { (0 < n) × (n ≤ 64) }
-    ensures { slot.Kept (counts.places n rounds) slots.old result slots.new }
+fn discover(participants: Participants, rounds: usize, slots: &mut [Slot]) -> Option<usize>
+    ensures { slot.Kept (counts.places participants.number rounds) slots.old result slots.new }
 {
     let mut from = 0;
-    let mut len = note_place(
-        slots,
-        0,
-        Place {
-            depth: 0,
-            state: CellState { boundaries: 0 },
-        },
-    )?;
+    let mut len = note_place(slots, 0, ZERO.key)?;
     for d in 0..rounds {
         let end = len;
-        len = note_layer(n, d + 1, slots, from, end)?;
+        len = note_layer(participants, d + 1, slots, from, end)?;
         from = end;
     }
     Some(len)
@@ -128,27 +123,30 @@ fn discover(n: usize, rounds: usize, slots: &mut [Slot]) -> Option<usize>
 fn add_product(total: u64, weight: u128, value: u64) -> Option<u64>
     ensures { 0 < value → slot.FitsAs (total + weight * value) result }
 {
-    let Ok(weight) = u64::try_from(weight) else {
-        return None;
-    };
+    let weight = u64::try_from(weight).ok()?;
     total.checked_add(weight.checked_mul(value)?)
 }
 
 // How many scenarios continue from a place, by the counts of the places after it, or None where that does not fit.
-fn sum_nexts(n: usize, rounds: usize, slots: &[Slot], len: usize, place: Place) -> Option<u64>
-    requires { (0 < n) × (n ≤ 64) }
-    ensures { (xs : List counts.Slot) (i : ℕ) → slot.Settled n rounds (counts.places n rounds) len (i + 1) xs slots.now → i < len → place ≡ (slice_index_or slots.now i counts.zero_slot).key → slot.FitsAs (counts.entry n rounds place).value result }
+fn sum_nexts(
+    participants: Participants,
+    rounds: usize,
+    slots: &[Slot],
+    len: usize,
+    place: Place,
+) -> Option<u64>
+    ensures { (xs : List counts.Slot) (i : ℕ) → slot.Settled participants.number rounds (counts.places participants.number rounds) len (i + 1) xs slots.now → i < len → place ≡ (slice_index_or slots.now i counts.zero_slot).key → slot.FitsAs (counts.entry participants.number rounds place).value result }
 {
     if place.depth >= rounds {
         return Some(1);
     }
-    let mut edges = Edges::of(n, place.state);
+    let used = &slots[..len.min(slots.len())];
+    let mut edges = Edges::of(participants.number, place.state);
     let mut total = 0;
     loop {
         let edge = edges.edge();
         let value = value_of(
-            slots,
-            len,
+            used,
             Place {
                 depth: place.depth + 1,
                 state: edge.next,
@@ -161,22 +159,19 @@ fn sum_nexts(n: usize, rounds: usize, slots: &[Slot], len: usize, place: Place) 
     }
 }
 
-// Gives each place its count, from the last to the first; false where a count does not fit.
-fn settle(n: usize, rounds: usize, slots: &mut [Slot], len: usize) -> bool
-    requires { (0 < n) × ((n ≤ 64) × (len ≤ length slots.old)) }
-    ensures { (xs : List counts.Slot) → slot.Holds (counts.places n rounds) len xs slots.old → slot.SettledOr n rounds len xs result slots.new }
+// Gives each place its count, from the last to the first; none where a count does not fit.
+fn settle(participants: Participants, rounds: usize, slots: &mut [Slot], len: usize) -> Option<()>
+    requires { len ≤ length slots.old }
+    ensures { (xs : List counts.Slot) → slot.Holds (counts.places participants.number rounds) len xs slots.old → slot.SettledOr participants.number rounds len xs result slots.new }
 {
     for i in (0..len).rev() {
         let place = slots[i].key;
-        match sum_nexts(n, rounds, slots, len, place) {
-            Some(value) => slots[i] = Entry { key: place, value },
-            None => return false,
-        }
+        slots[i].value = sum_nexts(participants, rounds, slots, len, place)?;
     }
-    true
+    Some(())
 }
 
-// The count in the first slot, which is the total.
+// The count of the first place, the one before all rounds.
 fn first_value(slots: &[Slot]) -> u64
     requires { 0 < length slots.now }
     ensures { result ≡ (slice_index_or slots.now 0 counts.zero_slot).value }
@@ -184,19 +179,35 @@ fn first_value(slots: &[Slot]) -> u64
     slots[0].value
 }
 
-// Counts the scenarios of so many rounds for n participants, and leaves in the slots the count of each place that rounds can lead to.
-// Where that is refused, all slots are zero.
-pub(crate) fn count_in(n: usize, rounds: usize, slots: &mut [Slot]) -> Result<u64, Refusal>
-    requires { (0 < n) × ((n ≤ 64) × (rounds ≤ 64)) }
-    ensures { elim result [ Ok v ↦ counts.CountedAs n rounds slots.old v slots.new | Err e ↦ counts.RefusedAs n rounds slots.old e slots.new ] }
+// Finds the places and gives each its count, as far as the slots suffice and the counts fit, and answers the total.
+fn count_through(
+    participants: Participants,
+    rounds: usize,
+    slots: &mut [Slot],
+) -> Result<u64, Refusal>
+    ensures { elim result [ Ok v ↦ counts.CountedAs participants.number rounds slots.old v slots.new | Err e ↦ counts.Cause participants.number rounds slots.old e ] }
 {
-    let Some(len) = discover(n, rounds, slots) else {
-        clear(slots);
+    let Some(len) = discover(participants, rounds, slots) else {
         return Err(Refusal::CountMemory);
     };
-    if !settle(n, rounds, slots, len) {
-        clear(slots);
-        return Err(Refusal::TotalTooLarge);
+    match settle(participants, rounds, slots, len) {
+        Some(()) => Ok(first_value(slots)),
+        None => Err(Refusal::TotalTooLarge),
     }
-    Ok(first_value(slots))
+}
+
+// Counts the scenarios of so many rounds, and leaves in the slots the count of each place that rounds can lead to.
+// Where that is refused, all slots are zero.
+pub(crate) fn count_in(
+    participants: Participants,
+    rounds: usize,
+    slots: &mut [Slot],
+) -> Result<u64, Refusal>
+    ensures { elim result [ Ok v ↦ counts.CountedAs participants.number rounds slots.old v slots.new | Err e ↦ counts.RefusedAs participants.number rounds slots.old e slots.new ] }
+{
+    let counted = count_through(participants, rounds, slots);
+    if counted.is_err() {
+        slots.fill(ZERO);
+    }
+    counted
 }

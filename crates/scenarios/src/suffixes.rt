@@ -29,6 +29,6 @@ impl SuffixCounts<'_> {
         if depth == self.rounds {
             return 1;
         }
-        value_of(self.slots, self.slots.len(), Place { depth, state })
+        value_of(self.slots, Place { depth, state })
     }
 }

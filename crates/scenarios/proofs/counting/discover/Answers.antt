@@ -8,7 +8,7 @@ use Rattle.scenarios.proofs.counting.discover.Goals as goal
 pub returns-in_err-len : goal.returns-in_err-len
 returns-in_err-len c =
     let xs = c.args.slots.now in
-    let n = c.args.n in
+    let n = c.args.participants.number in
     let b : length xs < length (places_before n 1) = c.in_err-len.ensures [] xs (holds_none xs) in
     let l = places_within n 1 (suc c.args.rounds) (omega arith) in
     let short : length xs < length (places n c.args.rounds) = omega arith in
@@ -17,19 +17,19 @@ returns-in_err-len c =
 pub note_layer-requires : goal.note_layer-requires
 note_layer-requires c =
     let xs = c.args.slots.now in
-    let n = c.args.n in
+    let n = c.args.participants.number in
     let d = c.loop-d.d in
     let h : Holds (places_before n (suc d)) c.loop-d.len xs c.loop-d.slots = c.loop-d.invariant.1 xs (c.in_ok-len.ensures [] xs (holds_none xs)) in
     let u = h.used in
     let f = h.fits in
     let e = c.loop-d.invariant.0 in
     let l = places_within n d (suc d) (omega arith) in
-    (c.requires.0, (c.requires.1, ((omega arith), f)))
+    ((omega arith), f)
 
 pub returns-in_err-len-2 : goal.returns-in_err-len-2
 returns-in_err-len-2 c =
     let xs = c.args.slots.now in
-    let n = c.args.n in
+    let n = c.args.participants.number in
     let d = c.loop-d.d in
     let h : Holds (places_before n (suc d)) c.loop-d.len xs c.loop-d.slots = c.loop-d.invariant.1 xs (c.in_ok-len.ensures [] xs (holds_none xs)) in
     let b : length xs < length (places_before n (suc (d + 1))) =
@@ -41,7 +41,7 @@ returns-in_err-len-2 c =
 pub loop-d-preserved : goal.loop-d-preserved
 loop-d-preserved c =
     let xs = c.args.slots.now in
-    let n = c.args.n in
+    let n = c.args.participants.number in
     let d = c.loop-d.d in
     let h : Holds (places_before n (suc d)) c.loop-d.len xs c.loop-d.slots = c.loop-d.invariant.1 xs (c.in_ok-len.ensures [] xs (holds_none xs)) in
     let o : suc d ≡ d + 1 = omega arith in (
@@ -52,6 +52,6 @@ loop-d-preserved c =
 pub returns : goal.returns
 returns c =
     let xs = c.args.slots.now in
-    let n = c.args.n in
+    let n = c.args.participants.number in
     subst (λ k. Holds (places_before n (suc k)) c.loop-d.len xs c.loop-d.slots) (let e : c.loop-d.d ≡ c.args.rounds = omega arith in e)
     (c.loop-d.invariant.1 xs (c.in_ok-len.ensures [] xs (holds_none xs)))

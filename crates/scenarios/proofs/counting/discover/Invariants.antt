@@ -5,5 +5,5 @@ use Rattle.scenarios.proofs.counting.discover.Given as goal
 
 abbrev pub invariant-loop-d : goal.invariant-loop-d
 invariant-loop-d l =
-    (l.from ≡ length (places_before l.n l.d))
-    × ((xs : List Slot) → Holds (places_before l.n 1) l.initial.len xs l.initial.slots → Holds (places_before l.n (suc l.d)) l.len xs l.slots)
+    (l.from ≡ length (places_before l.participants.number l.d))
+    × ((xs : List Slot) → Holds (places_before l.participants.number 1) l.initial.len xs l.initial.slots → Holds (places_before l.participants.number (suc l.d)) l.len xs l.slots)

@@ -8,7 +8,7 @@ use Rattle.scenarios.proofs.counting.note_layer.Goals as goal
 pub returns-in_err-used : goal.returns-in_err-used
 returns-in_err-used c ps xs h =
     let u = h.used in
-    let n = c.args.n in
+    let n = c.args.participants.number in
     let m = c.args.depth in
     let from = c.args.from in
     let i = c.loop-i.i in
@@ -23,7 +23,7 @@ returns-in_err-used c ps xs h =
 pub loop-i-preserved : goal.loop-i-preserved
 loop-i-preserved c ps xs h =
     let u = h.used in
-    let n = c.args.n in
+    let n = c.args.participants.number in
     let m = c.args.depth in
     let from = c.args.from in
     let i = c.loop-i.i in
@@ -36,4 +36,4 @@ returns c ps xs h =
     let u = h.used in
     let from = c.args.from in
     let i = c.loop-i.i in
-    subst (λ t. Holds t c.loop-i.used xs c.loop-i.slots) (layer_all c.args.n c.args.depth from (i - from) ps (omega arith)) (c.loop-i.invariant ps xs h)
+    subst (λ t. Holds t c.loop-i.used xs c.loop-i.slots) (layer_all c.args.participants.number c.args.depth from (i - from) ps (omega arith)) (c.loop-i.invariant ps xs h)

@@ -7,4 +7,4 @@ use Rattle.scenarios.proofs.counting.note_layer.Given as goal
 
 abbrev pub invariant-loop-i : goal.invariant-loop-i
 invariant-loop-i l = (ps : List Place) (xs : List Slot) → Holds ps l.len xs l.initial.slots
-    → Holds (noted same_place ps (flat_map (afters l.n l.depth) (take (l.i - l.from) (drop l.from ps)))) l.used xs l.slots
+    → Holds (noted same_place ps (flat_map (afters l.participants.number l.depth) (take (l.i - l.from) (drop l.from ps)))) l.used xs l.slots

@@ -18,7 +18,7 @@ advance-requires c = c.loop-used.invariant.0
 
 pub returns-in_err-used : goal.returns-in_err-used
 returns-in_err-used c ps xs h =
-    let n = c.args.n in
+    let n = c.args.participants.number in
     let m = c.args.depth in
     let p = c.args.place in
     let i = c.loop-used.invariant.1 ps xs h in
@@ -32,7 +32,7 @@ returns-in_err-used c ps xs h =
 
 pub returns-then-not-advance : goal.returns-then-not-advance
 returns-then-not-advance c ps xs h =
-    let n = c.args.n in
+    let n = c.args.participants.number in
     let m = c.args.depth in
     let p = c.args.place in
     let i = c.loop-used.invariant.1 ps xs h in

@@ -4,5 +4,5 @@ use Rattle.scenarios.specs.Slots.{Holds, Settled}
 use Rattle.scenarios.proofs.counting.settle.Given as goal
 
 abbrev pub invariant-loop-i : goal.invariant-loop-i
-invariant-loop-i l = (xs : List Slot) → Holds (places l.n l.rounds) l.len xs l.initial.slots
-    → Settled l.n l.rounds (places l.n l.rounds) l.len l.i xs l.slots
+invariant-loop-i l = (xs : List Slot) → Holds (places l.participants.number l.rounds) l.len xs l.initial.slots
+    → Settled l.participants.number l.rounds (places l.participants.number l.rounds) l.len l.i xs l.slots
