@@ -1,8 +1,9 @@
 -- The count that a search of the slots finds for a state that rounds can lead to.
 use Rattle.std.proofs.Common.{◌≡◌, ℕ, suc, ◌+◌, ◌-◌, ◌<◌, ◌≤◌, min, ◌⊎◌, List, length, get_or, take, drop, Some, None, Option, sym, refl, ap, ◌∙◌, subst, inl, inr, arith}
-use Rattle.std.proofs.lemmas.List.{length-take, length-map, take_at, get_or-take, get_or-map}
+use Rattle.std.proofs.lemmas.List.{length-take, length-take-le, length-map, take_at, get_or-take, get_or-map}
 use Rattle.std.proofs.lemmas.Bool.{cases_lt}
 use Rattle.table.specs.Places.{Place as Found}
+use Rattle.table.proofs.Front.{in_front}
 use Rattle.scenarios.specs.declared.counting.Place.{Place}
 use Rattle.scenarios.specs.Cells.{cells, boundaries}
 use Rattle.scenarios.specs.Turns.{Turn, turns, after}
@@ -17,6 +18,20 @@ use Rattle.scenarios.proofs.Slots.{among_index, meant_same}
 -- counting leaves the entries in front
 pub counted_front : (n R v : ℕ) (xs ys : List Slot) → CountedAs n R xs v ys → take (length (entries n R)) ys ≡ entries n R
 counted_front n R v xs ys c = ap (take (length (entries n R))) c.3 ∙ take_at (entries n R) (drop (length (entries n R)) xs) (length (entries n R)) refl
+
+-- what a search of the slots in use finds is what a search of as many slots finds
+pub valued_in_front : (p : Place) (len n v : ℕ) (xs : List Slot) → n ≡ min len (length xs) → Valued p (length (take n xs)) (take n xs) v → Valued p len xs v
+valued_in_front p len n v xs e f = go f.0 f.1 f.2
+  where
+    within : length (take n xs) ≡ n
+    within = length-take-le n xs (omega (arith, e))
+
+    go : (o : Option ℕ) → Found (λ s. meant s.key ≡ meant p) (take n xs) (min (length (take n xs)) (length (take n xs))) o → v ≡ value_at (take n xs) o → Valued p len xs v
+    go o g q = (o, in_front (λ s. meant s.key ≡ meant p) len n xs e o (subst (λ k. Found (λ s. meant s.key ≡ meant p) (take n xs) k o) (let m : min (length (take n xs)) (length (take n xs)) ≡ length (take n xs) = omega arith in m) g), q ∙ same o g)
+      where
+        same : (o : Option ℕ) → Found (λ s. meant s.key ≡ meant p) (take n xs) (min (length (take n xs)) (length (take n xs))) o → value_at (take n xs) o ≡ value_at xs o
+        same None g = refl
+        same (Some i) g = ap (λ s. s.value) (get_or-take n xs i zero_slot (omega (arith, g.0, within)))
 
 -- the slots that hold the entries in front, and a search of them all or of at least those
 module _ (n R len : ℕ) (ys : List Slot) (front : take (length (entries n R)) ys ≡ entries n R) (most : length (entries n R) ≤ len) where

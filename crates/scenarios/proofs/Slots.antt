@@ -1,13 +1,13 @@
 -- Steps of counting in the slots: a place is added, found, and given its count.
-use Rattle.std.proofs.Common.{◌≡◌, ℕ, suc, ◌+◌, ◌-◌, ◌<◌, ◌≤◌, min, true, false, ◌⊎◌, List, [], ◌∷◌, ◌++◌, map, length, get_or, take, drop, set, Some, None, Option, sym, refl, ap, ◌∙◌, subst, inl, inr, arith}
+use Rattle.std.proofs.Common.{◌≡◌, ℕ, suc, ◌+◌, ◌-◌, ◌<◌, ◌≤◌, min, true, false, ◌⊎◌, List, [], ◌∷◌, ◌++◌, map, length, get_or, take, drop, set, Some, None, Option, Ok, Err, Result, sym, refl, ap, ◌∙◌, subst, inl, inr, arith}
 use lib.Seq.{take-set-lt}
 use Rattle.std.proofs.lemmas.List.{length-append, length_push, length-map, length-set, length-take-le, take-append-drop, take_more_set, drop_more, drop-drop, drop-set-lt, map_push, map-set, set-get_or, get_or_at, get_or-take, get_or-map, get_or-set_same, get_or-set_other, get_or_default, same_lists}
 use Rattle.std.proofs.lemmas.Bool.{cases_eq, cases_lt, cases_Bool}
 use Rattle.scenarios.specs.Cells.{cells, boundaries}
 use Rattle.scenarios.specs.Turns.{Turn, turns, after}
 use Rattle.scenarios.specs.Fits.{Among}
-use Rattle.table.specs.declared.Adding.{Adding}
-use Rattle.table.specs.declared.Adding.TheVariants.{Added, There, Full}
+use Rattle.table.specs.declared.NotAdded.{NotAdded}
+use Rattle.table.specs.declared.NotAdded.TheVariants.{There, Full}
 use Rattle.table.specs.Places.{Place as Found, AddedAs}
 use Rattle.scenarios.specs.declared.counting.Place.{Place}
 use Rattle.scenarios.specs.Scenarios.{count}
@@ -80,12 +80,12 @@ holds_push ps p v len xs ys h l =
     }
 
 -- what became of an addition: the next slots hold one place more if it is new, or there is no room for it
-abbrev pub NotedAs : List Place → Place → ℕ → List Slot → Adding → List Slot → Type 0
-NotedAs ps p len xs (Added i) zs = Holds (note same_place ps p) (len + 1) xs zs
-NotedAs ps p len xs There zs = Holds (note same_place ps p) len xs zs
-NotedAs ps p len xs Full zs = length xs < length (note same_place ps p)
+abbrev pub NotedAs : List Place → Place → ℕ → List Slot → Result ℕ NotAdded → List Slot → Type 0
+NotedAs ps p len xs (Ok i) zs = Holds (note same_place ps p) (i + 1) xs zs
+NotedAs ps p len xs (Err There) zs = Holds (note same_place ps p) len xs zs
+NotedAs ps p len xs (Err Full) zs = length xs < length (note same_place ps p)
 
-pub note_step : (ps : List Place) (p : Place) (v len : ℕ) (xs ys zs : List Slot) (r : Adding) → Holds ps len xs ys
+pub note_step : (ps : List Place) (p : Place) (v len : ℕ) (xs ys zs : List Slot) (r : Result ℕ NotAdded) → Holds ps len xs ys
     → AddedAs (λ e. meant e.key ≡ meant p) (record { key = p; value = v }) ys (min len (length ys)) r zs → NotedAs ps p len xs r zs
 note_step ps p v len xs ys zs r h f =
     let e : min len (length ys) ≡ len = (let z = h.fits in omega arith) in
@@ -98,11 +98,11 @@ note_step ps p v len xs ys zs r h f =
         choose (inl e) = absurd (not_found ps p len xs ys h g ((member_tells same_place same_place_tells p ps).0 e))
         choose (inr e) = note_new same_place ps p e
 
-    go : (r : Adding) → AddedAs (λ s. meant s.key ≡ meant p) (record { key = p; value = v }) ys len r zs → NotedAs ps p len xs r zs
-    go (Added i) g =
-        let P : List Place → List Slot → Type 0 = λ qs ws. Holds qs (len + 1) xs ws in
-        subst (λ qs. P qs zs) (sym (new g.2)) (subst (P (ps ++ (p ∷ []))) (sym g.3) (holds_push ps p v len xs ys h g.1))
-    go There g =
+    go : (r : Result ℕ NotAdded) → AddedAs (λ s. meant s.key ≡ meant p) (record { key = p; value = v }) ys len r zs → NotedAs ps p len xs r zs
+    go (Ok i) g =
+        let P : List Place → List Slot → Type 0 = λ qs ws. Holds qs (i + 1) xs ws in
+        subst (λ qs. P qs zs) (sym (new g.2)) (subst (P (ps ++ (p ∷ []))) (sym g.3) (subst (λ k. Holds (ps ++ (p ∷ [])) (k + 1) xs (set ys len (record { key = p; value = v }))) (sym g.0) (holds_push ps p v len xs ys h g.1)))
+    go (Err There) g =
         let i = g.0.0 in
         let q = found_at ps p len i xs ys h g.0.1 p in
         let l = g.0.1.0 in
@@ -111,7 +111,7 @@ note_step ps p v len xs ys zs r h f =
         let s = note_seen same_place ps p ((member_tells same_place same_place_tells p ps).1 a) in
         let P : List Place → List Slot → Type 0 = λ qs ws. Holds qs len xs ws in
         subst (λ qs. P qs zs) (sym s) (subst (P ps) (sym g.1) h)
-    go Full g =
+    go (Err Full) g =
         let k = ap length (new g.1) ∙ length_push ps p in
         let u = h.used in
         let b = g.0 in

@@ -10,7 +10,7 @@ ghost use Rattle.scenarios.specs.Slots as slot;
 use crate::cell::CellState;
 use crate::edge::Edges;
 use refusals::Refusal;
-use table::{Adding, Entry, Key, add, find};
+use table::{Entry, Key, NotAdded, add, find};
 
 // A residual state after so many rounds.
 #[derive(Clone, Copy)]
@@ -52,20 +52,17 @@ fn note_place(slots: &mut [Slot], len: usize, place: Place) -> Option<usize>
     ensures { (ps : List Place) (xs : List counts.Slot) → slot.Holds ps len xs slots.old → slot.Kept (counts.note counts.same_place ps place) xs result slots.new }
 {
     match add(slots, len, place, 0) {
-        Adding::Added(_) => Some(len + 1),
-        Adding::There => Some(len),
-        Adding::Full => None,
+        Ok(at) => Some(at + 1),
+        Err(NotAdded::There) => Some(len),
+        Err(NotAdded::Full) => None,
     }
 }
 
-// The count that the first `len` slots hold for a place, or 0.
-pub(crate) fn value_of(slots: &[Slot], len: usize, place: Place) -> u64
-    ensures { slot.Valued place len slots.now result }
+// The count that these slots hold for a place, or 0.
+pub(crate) fn value_of(slots: &[Slot], place: Place) -> u64
+    ensures { slot.Valued place (length slots.now) slots.now result }
 {
-    match find(slots, len, &place) {
-        Some(i) => slots[i].value,
-        None => 0,
-    }
+    find(slots, &place).map_or(0, |i| slots[i].value)
 }
 
 // Notes the places at a depth after one more round from a place.
@@ -142,13 +139,13 @@ fn sum_nexts(n: usize, rounds: usize, slots: &[Slot], len: usize, place: Place) 
     if place.depth >= rounds {
         return Some(1);
     }
+    let used = &slots[..len.min(slots.len())];
     let mut edges = Edges::of(n, place.state);
     let mut total = 0;
     loop {
         let edge = edges.edge();
         let value = value_of(
-            slots,
-            len,
+            used,
             Place {
                 depth: place.depth + 1,
                 state: edge.next,
@@ -205,7 +202,7 @@ pub(crate) fn count_in(n: usize, rounds: usize, slots: &mut [Slot]) -> Result<u6
 pub(crate) fn suffix_count(slots: &[Slot], depth: usize, state: CellState) -> u64
     ensures { (n rounds : ℕ) → take (length (counts.entries n rounds)) slots.now ≡ counts.entries n rounds → depth ≤ rounds → Among (counts.layer n depth) state.boundaries → result ≡ count (rounds - depth) (cells n state.boundaries) }
 {
-    value_of(slots, slots.len(), Place { depth, state })
+    value_of(slots, Place { depth, state })
 }
 
 // How many scenarios of so many rounds continue from a state at a depth. At the last depth there is one, with no search.

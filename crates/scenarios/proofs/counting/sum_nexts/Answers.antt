@@ -3,6 +3,7 @@ use Rattle.scenarios.specs.Cells.{cells}
 use Rattle.scenarios.specs.Counting.{entry}
 use Rattle.scenarios.specs.Slots.{FitsAs}
 use Rattle.scenarios.specs.Edges.{left_of}
+use Rattle.scenarios.proofs.Finding.{valued_in_front}
 use Rattle.scenarios.proofs.Onward.{left_begun, left_moved}
 use Rattle.scenarios.proofs.Turning.{share, last_value, shares_all, shares_found, sum_moved, sum_ended, sum_large}
 use Rattle.scenarios.proofs.counting.sum_nexts.Goals as goal
@@ -30,7 +31,7 @@ returns-in_err-total c xs i s l q =
     let S = (entry c.args.n R p).value in
     let large : 2 ^ 64 ≤ S =
     sum_large (share R p) (p.depth + 1) c.args.len c.loop-total.total S c.args.slots.now c.loop-total.edges c.loop-total.invariant.0 (c.loop-total.invariant.1 xs i s l q)
-    c.edge-edge.result c.edge-edge.ensures c.value_of-value.result c.value_of-value.ensures (2 ^ 64) c.in_err-total.ensures in
+    c.edge-edge.result c.edge-edge.ensures c.value_of-value.result (valued_in_front _ c.args.len c.min.result c.value_of-value.result c.args.slots.now c.min.ensures c.value_of-value.ensures) (2 ^ 64) c.in_err-total.ensures in
     subst (FitsAs S) (sym c.from_residual.ensures) large
 
 pub returns-then-not-advance : goal.returns-then-not-advance
@@ -38,7 +39,7 @@ returns-then-not-advance c xs i s l q =
     let R = c.args.rounds in
     let p = c.args.place in
     sum_ended (share R p) (p.depth + 1) c.args.len c.loop-total.total (entry c.args.n R p).value c.args.slots.now c.loop-total.edges c.loop-total.invariant.0 (c.loop-total.invariant.1 xs i s l q)
-    c.edge-edge.result c.edge-edge.ensures c.value_of-value.result c.value_of-value.ensures c.in_ok-total.total c.in_ok-total.ensures c.if-not-advance.ensures
+    c.edge-edge.result c.edge-edge.ensures c.value_of-value.result (valued_in_front _ c.args.len c.min.result c.value_of-value.result c.args.slots.now c.min.ensures c.value_of-value.ensures) c.in_ok-total.total c.in_ok-total.ensures c.if-not-advance.ensures
 
 pub loop-total-smaller : goal.loop-total-smaller
 loop-total-smaller c =
@@ -52,5 +53,5 @@ loop-total-preserved c = (
       let R = c.args.rounds in
       let p = c.args.place in
       sum_moved (share R p) (p.depth + 1) c.args.len c.loop-total.total (entry c.args.n R p).value c.args.slots.now c.loop-total.edges c.loop-total.invariant.0 (c.loop-total.invariant.1 xs i s l q)
-      c.edge-edge.result c.edge-edge.ensures c.value_of-value.result c.value_of-value.ensures c.in_ok-total.total c.advance.new.self c.in_ok-total.ensures c.if-not-advance.ensures,
+      c.edge-edge.result c.edge-edge.ensures c.value_of-value.result (valued_in_front _ c.args.len c.min.result c.value_of-value.result c.args.slots.now c.min.ensures c.value_of-value.ensures) c.in_ok-total.total c.advance.new.self c.in_ok-total.ensures c.if-not-advance.ensures,
 )
