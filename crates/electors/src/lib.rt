@@ -8,8 +8,8 @@ ghost use Rattle.electors.specs.States.{Answered, Alike};
 
 mod elector;
 mod lot;
+mod panel;
 mod rotation;
-mod rules;
 mod script;
 
 pub use elector::{Dynamic, Elector, Scheduled};
