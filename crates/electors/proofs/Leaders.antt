@@ -1,17 +1,17 @@
 -- Leaders read from a script.
-use Rattle.std.proofs.Common.{◌≡◌, ℕ, zero, suc, Bool, true, false, cond, ltb, List, [], ◌∷◌, Some, None, Option, refl, ap, ◌∙◌}
+use Rattle.std.proofs.Common.{◌≡◌, ℕ, zero, suc, Bool, true, false, cond, ltb, List, [], ◌∷◌, Some, None, Option, refl}
 use Rattle.std.specs.List.{slice_get}
 use Rattle.std.proofs.lemmas.Bool.{cond-true, and_parts}
 use Rattle.terms.specs.Terms.{script_place}
 use Rattle.electors.specs.Making.{all_below, leaders_fault}
-use Rattle.electors.specs.Scripts.{or_below, if_below}
+use Rattle.electors.specs.Scripts.{if_below}
 use Rattle.electors.specs.States.{script_elects, Scripted}
 
 -- what is at no fault passes its last test
 passed : (long all : Bool) → cond {A = Option ℕ} long (Some 7) (cond all None (Some 23)) ≡ None → all ≡ true
-passed false true e = refl
+passed long true e = refl
+passed true false e = cc
 passed false false e = cc
-passed true all e = cc
 
 -- of leaders that are participants none is passed over
 if_below_nth : (count : ℕ) (leaders : List ℕ) (i : ℕ) → all_below count leaders ≡ true → if_below count (slice_get leaders i) ≡ slice_get leaders i
@@ -25,5 +25,5 @@ scripted_kept count term elects leaders kept f q = record {
   no_fault = f;
   same_count = refl;
   same_term = refl;
-  leads = λ epoch view input. ap (λ xs. script_elects count term elects xs epoch view input) q ∙ ap (λ o. or_below o (elects epoch view input)) (if_below_nth count leaders (script_place term view) (passed _ _ f));
+  leads = λ epoch view input. let named = if_below_nth count leaders (script_place term view) (passed _ _ f) in cc;
 }
