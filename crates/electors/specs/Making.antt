@@ -13,9 +13,10 @@ abbrev pub MadeOf : {X : Type 0} → ℕ → ℕ → (X → ℕ) → (X → ℕ)
 MadeOf count term counts terms (Ok e) = (elector_fault count term ≡ None) × (counts e ≡ count) × (terms e ≡ term)
 MadeOf count term counts terms (Err e) = elector_fault count term ≡ Some (number_of e)
 
+-- each leader is a participant
 abbrev pub all_below : ℕ → List ℕ → Bool
 all_below count leaders = list_all (λ leader. nat_lt leader count) leaders
 
--- a script has at most 64 leaders, and each is a participant of the elector below
+-- the number of the first rule that the leaders of a script break: there are at most 64, and each is a participant of the elector below
 abbrev pub leaders_fault : ℕ → List ℕ → Option ℕ
 leaders_fault count leaders = cond (nat_lt 64 (length leaders)) (Some 7) (cond (all_below count leaders) None (Some 23))
