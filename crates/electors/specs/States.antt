@@ -1,5 +1,5 @@
 -- What a script over an elector promises.
-use Rattle.std.specs.Prelude.{◌≡◌, ℕ, List, [], take, Some, None, Ok, Err, Result}
+use Rattle.std.specs.Prelude.{◌≡◌, ℕ, List, [], Some, None, Ok, Err, Result}
 use Rattle.refusals.specs.Refusals.{number_of}
 use Rattle.electors.specs.declared.script.ElectorState.{ElectorState}
 use Rattle.electors.specs.declared.script.ScriptRefused.{ScriptRefused}
@@ -12,7 +12,7 @@ script_elects count term elects leaders epoch view input = or_below (if_below co
 
 -- the leaders of a script
 abbrev pub leaders_of : {X : Type 0} → ElectorState X → List ℕ
-leaders_of s = take s.len s.leaders
+leaders_of s = s.leaders.items
 
 -- what a script elects, where the elector below has these meanings
 abbrev pub state_elects : {X I : Type 0} → (X → ℕ) → (X → ℕ) → (X → ℕ → ℕ → I → ℕ) → ElectorState X → ℕ → ℕ → I → ℕ

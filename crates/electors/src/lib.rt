@@ -8,8 +8,8 @@ ghost use Rattle.electors.specs.States.{Answered, Alike};
 
 mod elector;
 mod lot;
+mod panel;
 mod rotation;
-mod rules;
 mod script;
 
 pub use elector::{Dynamic, Elector, Scheduled};
@@ -46,6 +46,7 @@ pub fn elect_both<I, E: Elector<Mode = I>, F: Elector<Mode = I>>(
 
 // One script over two electors.
 // Over electors that mean the same the two scripts mean the same, and so on for scripts over these.
+#[tactic(auto, using(crate::proofs::Meanings::answered_alike))]
 pub fn script_both<I, E: Elector<Mode = I>, F: Elector<Mode = I>>(
     e: E,
     f: F,

@@ -1,52 +1,46 @@
 // The elector by lot.
-ghost use Rattle.std.specs.Prelude.{◌≡◌, ◌%◌, ◌<◌, Some, None, Ok, Err};
-ghost use Rattle.refusals.specs.Refusals.{number_of};
-ghost use Rattle.electors.specs.Making.{elector_fault};
+ghost use Rattle.std.specs.Prelude.{◌%◌};
+ghost use Rattle.electors.specs.Making.{MadeOf};
 
 use crate::elector::{Dynamic, Elector};
-use crate::rules::checked_term;
+use crate::panel::Panel;
 use refusals::Refusal;
 use terms::TermLength;
 
 // The number that is handed in decides.
 #[derive(Clone, Copy)]
 pub struct Lot {
-    count: usize,
-    term: TermLength,
-    ghost ok: { 0 < count },
+    panel: Panel,
 }
 
 impl Lot {
     // A lot among so many participants in terms of so many views, from 2 to 64 participants and terms of at least 1 view.
     pub fn new(participants: usize, term: u32) -> Result<Lot, Refusal>
-        ensures { elim result [ Ok e ↦ (elector_fault participants term ≡ None) × (e.count ≡ participants) × (e.term.length ≡ term) | Err e ↦ elector_fault participants term ≡ Some (number_of e) ] }
+        ensures { MadeOf participants term (λ e. e.panel.count) (λ e. e.panel.term.length) result }
     {
-        let term = checked_term(participants, term)?;
-        Ok(Lot {
-            count: participants,
-            term,
-        })
+        let panel = Panel::new(participants, term)?;
+        Ok(Lot { panel })
     }
 }
 
 impl Elector for Lot {
     type Mode = Dynamic;
 
-    ghost counts = { λ e. e.count };
+    ghost counts = { λ e. e.panel.count };
 
-    ghost terms = { λ e. e.term.length };
+    ghost terms = { λ e. e.panel.term.length };
 
-    ghost elects = { λ e epoch view input. input.number % e.count };
+    ghost elects = { λ e epoch view input. input.number % e.panel.count };
 
     fn participants(&self) -> usize {
-        self.count
+        self.panel.participants()
     }
 
     fn term_length(&self) -> TermLength {
-        self.term
+        self.panel.term_length()
     }
 
     fn elect(&self, _epoch: u64, _view: u64, input: &Dynamic) -> usize {
-        (input.number % self.count as u64) as usize
+        self.panel.member(input.number)
     }
 }

@@ -1,6 +1,5 @@
 // A script over an elector.
-ghost use Rattle.std.specs.Prelude.{◌≤◌};
-
+use arrayvec::ArrayVec;
 use refusals::Refusal;
 
 mod leading;
@@ -10,9 +9,7 @@ mod making;
 #[derive(Drop)]
 pub struct ElectorState<E> {
     below: E,
-    leaders: [usize; 64],
-    len: usize,
-    ghost ok: { len ≤ 64 },
+    leaders: ArrayVec<usize, 64>,
 }
 
 // Why a script is not made, and an empty one over the same elector.

@@ -1,34 +1,23 @@
 // Scripts from lists of leaders.
-ghost use Rattle.std.specs.Prelude.{◌≡◌, ◌≤◌, length, take};
-ghost use Rattle.electors.specs.Making.{all_below};
+ghost use Rattle.std.specs.Prelude.{◌≡◌, Some, None, Ok, Err};
+ghost use Rattle.refusals.specs.Refusals.{number_of};
+ghost use Rattle.electors.specs.Making.{leaders_fault};
 ghost use Rattle.electors.specs.States.{leaders_of, Answered};
 
 use super::{ElectorState, ScriptRefused};
 use crate::elector::Elector;
+use arrayvec::ArrayVec;
 use refusals::Refusal;
 
-// Whether each leader is a participant.
-fn each_below(count: usize, leaders: &[usize]) -> bool
-    ensures { result ≡ all_below count leaders.now }
+// The leaders, unless there are more than 64 or one is no participant.
+fn kept(count: usize, leaders: &[usize]) -> Result<ArrayVec<usize, 64>, Refusal>
+    ensures { elim result [ Ok kept ↦ (leaders_fault count leaders.now ≡ None) × (kept.items ≡ leaders.now) | Err e ↦ leaders_fault count leaders.now ≡ Some (number_of e) ] }
 {
-    for leader in leaders {
-        if *leader >= count {
-            return false;
-        }
+    let kept = ArrayVec::try_from(leaders).map_err(|_| Refusal::ManyRounds)?;
+    if !leaders.iter().all(|leader| *leader < count) {
+        return Err(Refusal::LeaderOutOfRange);
     }
-    true
-}
-
-// The leaders, in a memory for 64.
-fn stored(leaders: &[usize]) -> [usize; 64]
-    requires { length leaders.now ≤ 64 }
-    ensures { take (length leaders.now) result ≡ leaders.now }
-{
-    let mut out = [0usize; 64];
-    for i in 0..leaders.len() {
-        out[i] = leaders[i];
-    }
-    out
+    Ok(kept)
 }
 
 impl<E: Elector> ElectorState<E> {
@@ -36,31 +25,16 @@ impl<E: Elector> ElectorState<E> {
     pub fn new(below: E, leaders: &[usize]) -> Result<ElectorState<E>, ScriptRefused<E>>
         ensures { Answered E.Elector.counts E.Elector.terms E.Elector.elects below leaders.now result }
     {
-        if leaders.len() > 64 {
-            return Err(ScriptRefused {
-                refusal: Refusal::ManyRounds,
+        match kept(below.participants(), leaders) {
+            Ok(leaders) => Ok(ElectorState { below, leaders }),
+            Err(refusal) => Err(ScriptRefused {
+                refusal,
                 script: ElectorState {
                     below,
-                    leaders: [0usize; 64],
-                    len: 0,
+                    leaders: ArrayVec::new(),
                 },
-            });
+            }),
         }
-        if !each_below(below.participants(), leaders) {
-            return Err(ScriptRefused {
-                refusal: Refusal::LeaderOutOfRange,
-                script: ElectorState {
-                    below,
-                    leaders: [0usize; 64],
-                    len: 0,
-                },
-            });
-        }
-        Ok(ElectorState {
-            below,
-            leaders: stored(leaders),
-            len: leaders.len(),
-        })
     }
 }
 
@@ -69,6 +43,6 @@ impl<E> ElectorState<E> {
     pub fn leaders(&self) -> &[usize]
         ensures { result.now ≡ leaders_of self.now }
     {
-        &self.leaders[..self.len]
+        self.leaders.as_slice()
     }
 }
