@@ -40,10 +40,8 @@ fn sets_of(counted: &CountedPlan<'_>, rank: u64) -> Option<u64>
     };
     let mut rounds = [round; 64];
     let numbers = counted.numbers();
-    match counted.scenario(rank, &mut rounds) {
-        Ok(state) => count_sets(numbers.participants, numbers.faults, state).ok(),
-        Err(_) => None,
-    }
+    let state = counted.scenario(rank, &mut rounds).ok()?;
+    count_sets(numbers.participants, numbers.faults, state).ok()
 }
 
 // Writes a ticket for each set of the scenario of a rank behind the first `len`, and answers where they end.

@@ -18,18 +18,18 @@ returns-in_err-len-clause-told g c counted ks yields low =
 
 pub loop-rank-preserved : goal.loop-rank-preserved
 loop-rank-preserved g c = (
-      c.in_ok-len.ensures.within,
-      search rules,
-      λ counted ks yields low.
-          let plan = c.args.counted.now.plan in
-          let xs = c.args.tickets.now in
-          let ys = c.note_rank.new.tickets in
-          let so_far = c.loop-rank.yielded in
-          let turn = rank_at g.I.Iterator.next_gives c.into_iter-rank-iterator.result c.args.ranks c.into_iter-rank-iterator.ensures.into_iter_gives ks yields so_far c.loop-rank.rank-iterator c.loop-rank.yielded_by c.next.result c.next.new.self c.in-Some.rank c.in-Some.is c.next.ensures.steps in
-          let below = subst (λ k. k < c.args.counted.now.total) turn.1 (All-get_or (λ k. k < c.args.counted.now.total) ks (length so_far) 0 turn.0 low) in
-          subst (λ n. Front xs (tickets_of plan (take n ks)) c.in_ok-len.len ys) (sym (length-append so_far (c.in-Some.rank ∷ [])))
-          (ranks_more plan ks (length so_far) _ turn.0 turn.1 c.in_ok-len.len xs ys (c.in_ok-len.ensures.told counted below xs (tickets_of plan (take (length so_far) ks)) (c.loop-rank.invariant.2 counted ks yields low))),
-    )
+  c.in_ok-len.ensures.within,
+  search rules,
+  λ counted ks yields low.
+      let plan = c.args.counted.now.plan in
+      let xs = c.args.tickets.now in
+      let ys = c.note_rank.new.tickets in
+      let so_far = c.loop-rank.yielded in
+      let turn = rank_at g.I.Iterator.next_gives c.into_iter-rank-iterator.result c.args.ranks c.into_iter-rank-iterator.ensures.into_iter_gives ks yields so_far c.loop-rank.rank-iterator c.loop-rank.yielded_by c.next.result c.next.new.self c.in-Some.rank c.in-Some.is c.next.ensures.steps in
+      let below = subst (λ k. k < c.args.counted.now.total) turn.1 (All-get_or (λ k. k < c.args.counted.now.total) ks (length so_far) 0 turn.0 low) in
+      subst (λ n. Front xs (tickets_of plan (take n ks)) c.in_ok-len.len ys) (sym (length-append so_far (c.in-Some.rank ∷ [])))
+      (ranks_more plan ks (length so_far) _ turn.0 turn.1 c.in_ok-len.len xs ys (c.in_ok-len.ensures.told counted below xs (tickets_of plan (take (length so_far) ks)) (c.loop-rank.invariant.2 counted ks yields low))),
+)
 
 pub returns-clause-told : goal.returns-clause-told
 returns-clause-told g c counted ks yields low =
