@@ -1,10 +1,12 @@
 -- Tickets written behind those in front.
-use Rattle.std.proofs.Common.{◌≡◌, ℕ, zero, suc, ◌+◌, ◌-◌, ◌<◌, ◌≤◌, List, [], ◌∷◌, ◌++◌, map, length, get_or, take, drop, set, Some, None, sym, refl, ap, ◌∙◌, subst, arith}
-use Rattle.std.specs.List.{range_with_len}
-use Rattle.std.proofs.lemmas.List.{append-nil, append_assoc, length-append, length-drop, length-take-le, take-append-drop, take_all, take_at, take_more, drop_at, drop-drop, flat_map_more}
-use Rattle.std.proofs.lemmas.List.FromFn.{get_or-range_with_len, length-map-range_with_len, map-range_with_len_more}
-use Rattle.table.proofs.Writes.{write_more}
-use Rattle.sampling.specs.Samples.{slot}
+use Rattle.std.proofs.Common.{◌≡◌, ℕ, ◌+◌, ◌-◌, ◌<◌, ◌≤◌, List, [], ◌∷◌, ◌++◌, length, get_or, take, drop, Some, None, Option, sym, ap, ◌∙◌, subst, arith}
+use Rattle.std.proofs.lemmas.List.{append-nil, append_assoc, length-append, length-drop, length-take, length-take-le, drop_all, take-append-drop, take_all, take_at, take_more, drop_at, drop-drop, flat_map_more}
+use Rattle.std.proofs.lemmas.List.FromFn.{length-map-range_with_len}
+use borrow.Rule.Slice.PartMut.{put_mid}
+use Rattle.std.specs.Iterator.{AlwaysYields, Yields}
+use Rattle.std.proofs.lemmas.Grind.{get_or_default_zero}
+use Rattle.std.proofs.lemmas.Iterator.{YieldsList}
+use Rattle.std.proofs.lemmas.Iterator.Consumers.{YieldsList-turn, YieldsList-end}
 use Rattle.scenarios.specs.declared.plan.Plan.{Plan}
 use Rattle.scenarios.proofs.Members.{joined_append}
 use Rattle.campaigns.specs.declared.ticket.Ticket.{Ticket}
@@ -21,13 +23,6 @@ module _ (xs ts : List Ticket) (at : ℕ) (ys : List Ticket) (f : Front xs ts at
   pub drop_front : drop at ys ≡ drop at xs
   drop_front = ap (drop at) f.held ∙ drop_at ts (drop at xs) at f.place
 
-  front_push : (y : Ticket) → at < length xs → Front xs (ts ++ (y ∷ [])) (at + 1) (set ys at y)
-  front_push y h = record {
-    place = let l = length-append ts (y ∷ []) in let e = f.place in omega arith;
-    room = omega arith;
-    held = ap (λ l. set l at y) f.held ∙ write_more ts xs at y f.place h;
-  }
-
   -- what is written behind the front of ys stands behind the front of xs
   front_over : (more zs : List Ticket) (end : ℕ) → Front ys (take at ys ++ more) end zs → Front xs (ts ++ more) end zs
   front_over more zs end g =
@@ -39,31 +34,22 @@ module _ (xs ts : List Ticket) (at : ℕ) (ys : List Ticket) (f : Front xs ts at
       ∙ drop-drop (length more) at xs ∙ ap (λ k. drop k xs) (sym past) in
       record { place = place; room = let l = length_front in let r = g.room in omega arith; held = g.held ∙ ap (λ l. l ++ drop end ys) front ∙ ap (λ l. (ts ++ more) ++ l) rest }
 
--- the loop that writes the tickets of one rank
+-- the tickets of one rank
 
-pub put_none : (rank at : ℕ) (ys : List Ticket) → at ≤ length ys → Front ys (take at ys ++ numbered rank 0) (at + 0) ys
-put_none rank at ys h =
-    let e : at + 0 ≡ at = omega arith in
-    let front : take at ys ++ [] ≡ take at ys = append-nil (take at ys) in
-    record {
-      place = ap length front ∙ length-take-le at ys h ∙ sym e;
+pub put_all : (rank count at i : ℕ) (ys items : List Ticket) → at ≤ length ys → count ≤ length ys - at → i ≡ count → items ≡ numbered rank i ++ drop i (take (at + count - at) (drop at ys))
+    → (xs front : List Ticket) → Front xs front at ys → Listed xs (front ++ numbered rank count) (Some (at + count)) (put_mid at (at + count - at) ys items)
+put_all rank count at i ys items h l last e xs front f =
+    let more = numbered rank count in
+    let behind = length-drop at ys in
+    let cut = length-take (at + count - at) (drop at ys) in
+    let none : drop i (take (at + count - at) (drop at ys)) ≡ [] = drop_all i (take (at + count - at) (drop at ys)) (omega arith) in
+    let all : items ≡ more = e ∙ ap (λ l. numbered rank i ++ l) none ∙ append-nil (numbered rank i) ∙ ap (numbered rank) last in
+    let rest : drop (at + count - at) (drop at ys) ≡ drop (at + count) ys = drop-drop (at + count - at) at ys ∙ ap (λ n. drop n ys) (let z : at + (at + count - at) ≡ at + count = omega arith in z) in
+    front_over xs front at ys f more (put_mid at (at + count - at) ys items) (at + count) (record {
+      place = length-append (take at ys) more ∙ ap (λ k. k + length more) (length-take-le at ys h) ∙ ap (λ k. at + k) (length-map-range_with_len (λ number. record { rank = rank; set = number }) 0 count);
       room = omega arith;
-      held = sym (ap (λ l. l ++ drop (at + 0) ys) front ∙ ap (λ k. take at ys ++ drop k ys) e ∙ take-append-drop at ys);
-    }
-
-pub put_more : (rank at i : ℕ) (ys zs : List Ticket) → at + i < length ys → Front ys (take at ys ++ numbered rank i) (at + i) zs
-    → Front ys (take at ys ++ numbered rank (i + 1)) (at + (i + 1)) (set zs (at + i) (record { rank = rank; set = i }))
-put_more rank at i ys zs h f =
-    let y : Ticket = record { rank = rank; set = i } in
-    let e : at + i + 1 ≡ at + (i + 1) = omega arith in
-    let more : (take at ys ++ numbered rank i) ++ (y ∷ []) ≡ take at ys ++ numbered rank (i + 1) =
-    append_assoc (take at ys) (numbered rank i) (y ∷ []) ∙ ap (λ l. take at ys ++ l) (sym (map-range_with_len_more (λ number. record { rank = rank; set = number }) 0 i i (omega arith))) in
-    subst (λ k. Front ys (take at ys ++ numbered rank (i + 1)) k (set zs (at + i) y)) e
-    (subst (λ l. Front ys l (at + i + 1) (set zs (at + i) y)) more (front_push ys (take at ys ++ numbered rank i) (at + i) zs f y h))
-
-pub put_all : (rank count at : ℕ) (ys zs : List Ticket) → Front ys (take at ys ++ numbered rank count) (at + count) zs
-    → (xs front : List Ticket) → Front xs front at ys → Listed xs (front ++ numbered rank count) (Some (at + count)) zs
-put_all rank count at ys zs g xs front f = front_over xs front at ys f (numbered rank count) zs (at + count) g
+      held = ap (λ l. take at ys ++ (l ++ drop (at + count - at) (drop at ys))) all ∙ ap (λ l. take at ys ++ (more ++ l)) rest ∙ sym (append_assoc (take at ys) more (drop (at + count) ys));
+    })
 
 pub put_short : (rank count at : ℕ) (ys : List Ticket) → length ys - at < count
     → (xs front : List Ticket) → Front xs front at ys → Listed xs (front ++ numbered rank count) None ys
@@ -101,12 +87,16 @@ module _ (p : Plan) (ks : List ℕ) where
         let l = n.0 in
         (omega arith, n.1)
 
--- the rank at each turn: every rank in order, or the key of a slot
+-- the rank at each turn of a loop over an iterator that gives these, and its end
 
-pub getD_every : (total i : ℕ) → i < total → get_or (range_with_len 0 total) i 0 ≡ i
-getD_every total i h = get_or-range_with_len 0 total i 0 h ∙ (let e : 0 + i ≡ i = omega arith in e)
+module _ {S : Type 0} (steps : S → Option ℕ → S → Type 0) (s s₀ : S) (same : s ≡ s₀) (ks : List ℕ) (yields : AlwaysYields steps (λ k. k) s₀ ks) (so_far : List ℕ) (t : S) (y : Yields steps s so_far t) (r : Option ℕ) (u : S) where
+  road : YieldsList steps (λ k. k) s ks
+  road = record { runs = subst (λ s. AlwaysYields steps (λ k. k) s ks) (sym same) yields }
 
-pub getD_slots : (ks : List ℕ) (i : ℕ) → (get_or (map slot ks) i (slot 0)).key ≡ get_or ks i 0
-getD_slots [] i = refl
-getD_slots (k ∷ ks) zero = refl
-getD_slots (k ∷ ks) (suc i) = getD_slots ks i
+  pub rank_at : (k : ℕ) → r ≡ Some k → steps t r u → (length so_far < length ks) × (get_or ks (length so_far) 0 ≡ k)
+  rank_at k is step =
+      let turn = YieldsList-turn road so_far t y r u k is step in
+      (turn.0, sym (turn.1 ∙ get_or_default_zero ks (length so_far) k turn.0))
+
+  pub ranks_end : r ≡ None → steps t r u → length so_far ≡ length ks
+  ranks_end is step = (YieldsList-end road so_far t y r u is step).1

@@ -1,6 +1,8 @@
 -- The steps of an opening, put together: ranks sampled and their tickets listed, then shuffled and cut.
-use Rattle.std.proofs.Common.{◌≡◌, ℕ, ◌+◌, ◌-◌, ◌<◌, ◌≤◌, min, true, List, ◌++◌, map, length, take, drop, replicate, Some, None, Ok, Err, Option, Result, sym, refl, ap, ◌∙◌, subst, inl, inr, arith}
-use Rattle.std.specs.List.{AllByRecursion}
+use Rattle.std.proofs.Common.{◌≡◌, ℕ, zero, suc, ◌+◌, ◌-◌, ◌<◌, ◌≤◌, min, true, List, [], ◌∷◌, ◌++◌, map, length, take, drop, replicate, Some, None, Ok, Err, Option, Result, sym, refl, ap, ◌∙◌, subst, inl, inr, arith}
+use Rattle.std.specs.List.{AllByRecursion, range_with_len}
+use Rattle.std.specs.Iterator.{AlwaysYields}
+use Rattle.std.proofs.lemmas.Iterator.{YieldsList}
 use Rattle.std.proofs.lemmas.List.{length-append, length-drop, length-map, length-take, take_at}
 use Rattle.std.proofs.lemmas.List.Sorted.{length_permutation}
 use Rattle.std.proofs.lemmas.Bool.{lt-ltb, cond-true}
@@ -27,6 +29,21 @@ fitting_within None ranks ranks' ys ys' r h f = subst (λ x. ToldWithin x ys') (
 cleared_same : (ranks ranks₁ ranks' : List Slot) (ts ys ys' : List Ticket) → length ranks₁ ≡ length ranks → length ys ≡ length ts → Cleared ranks₁ ys ranks' ys' → Cleared ranks ts ranks' ys'
 cleared_same ranks ranks₁ ranks' ts ys ys' a b c = record { ranks_zero = c.ranks_zero ∙ ap (λ k. replicate k (slot 0)) a; tickets_zero = c.tickets_zero ∙ ap (λ k. replicate k no_ticket) b }
 
+-- what an iterator gives, by an equal list
+pub gives : {S A B : Type 0} {steps : S → Option A → S → Type 0} {v : A → B} {s : S} {xs ys : List B} → xs ≡ ys → YieldsList steps v s xs → AlwaysYields steps v s ys
+gives {steps = steps} {v = v} {s = s} e road = (subst (λ l. YieldsList steps v s l) e road).runs
+
+keys_slots : (ks : List ℕ) → map (λ (x : Slot). x.key) (map slot ks) ≡ ks
+keys_slots [] = refl
+keys_slots (k ∷ ks) = ap (λ l. k ∷ l) (keys_slots ks)
+
+every_below : (a n total : ℕ) → a + n ≤ total → AllByRecursion (λ k. k < total) (range_with_len a n)
+every_below a zero total h = tt
+every_below a (suc n) total h = (omega arith, every_below (a + 1) n total (omega arith))
+
+pub ranks_below : (total : ℕ) → AllByRecursion (λ k. k < total) (range_with_len 0 total)
+ranks_below total = every_below 0 total total (omega arith)
+
 module _ (p : Plan) (total : ℕ) (memory : List CountSlot) (counted : Counted p total memory) (more : p.cap < total) (w w' : Words) (ranks ranks₁ : List Slot) where
   -- what is told of the total and the smaller of two is told of the plan
   sampled_plan : Sampled total (min p.cap total) w ranks w' ranks₁ → Sampled (total_for p) p.cap w ranks w' ranks₁
@@ -47,11 +64,11 @@ module _ (p : Plan) (total : ℕ) (memory : List CountSlot) (counted : Counted p
     length_ranks : length ranks₁ ≡ length ranks
     length_ranks = ap length s.ranks ∙ length-append (map slot drawn) (drop p.cap ranks) ∙ (let a = length_drawn in let b = length-drop p.cap ranks in let r = s.room in omega arith)
 
-    -- the first slots hold the ranks sampled, all below the total
-    pub drawn_slots : (k : ℕ) → k ≡ min p.cap total → take (k - 0) ranks₁ ≡ map slot drawn
-    drawn_slots k e =
+    -- the keys of the first slots are the ranks sampled, all below the total
+    pub drawn_keys : (k : ℕ) → k ≡ min p.cap total → map (λ (x : Slot). x.key) (take (k - 0) ranks₁) ≡ drawn
+    drawn_keys k e =
         let m : k - 0 ≡ p.cap = omega arith in
-        ap (λ j. take j ranks₁) m ∙ ap (take p.cap) s.ranks ∙ take_at (map slot drawn) (drop p.cap ranks) p.cap length_drawn
+        ap (map (λ (x : Slot). x.key)) (ap (λ j. take j ranks₁) m ∙ ap (take p.cap) s.ranks ∙ take_at (map slot drawn) (drop p.cap ranks) p.cap length_drawn) ∙ keys_slots drawn
 
     pub drawn_below : AllByRecursion (λ k. k < total) drawn
     drawn_below = subst (λ t. AllByRecursion (λ k. k < t) drawn) (sym counted.total_is) s.fair.below

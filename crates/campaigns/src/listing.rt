@@ -1,13 +1,12 @@
 // Listing: a ticket for each compromised set of each scenario, written one behind the other into lent memory.
-ghost use Rattle.std.specs.Prelude.{◌≡◌, ℕ, ◌<◌, ◌≤◌, List, ◌++◌, map, length, Some};
-ghost use Rattle.std.specs.List.{range_with_len, AllByRecursion};
-ghost use Rattle.sampling.specs.Samples as samples;
+ghost use Rattle.std.specs.Prelude.{◌≡◌, ℕ, ◌<◌, ◌≤◌, List, ◌++◌, length, Some};
+ghost use Rattle.std.specs.List.{AllByRecursion};
+ghost use Rattle.std.specs.Iterator.{IsFinite, AlwaysYields};
 ghost use Rattle.scenarios.specs.PlanCounts.{Counted};
 ghost use Rattle.campaigns.specs.Tickets as listed;
 ghost use Rattle.campaigns.specs.Listings as listings;
 
 use crate::ticket::Ticket;
-use sampling::RankSlot;
 use scenarios::{CountedPlan, RoundScenario};
 use sets::count_sets;
 
@@ -20,13 +19,14 @@ fn put_tickets(rank: u64, count: u64, tickets: &mut [Ticket], len: usize) -> Opt
     if count > (tickets.len() - len) as u64 {
         return None;
     }
-    for number in 0..count as usize {
-        tickets[len + number] = Ticket {
+    let end = len + count as usize;
+    for (number, ticket) in tickets[len..end].iter_mut().enumerate() {
+        *ticket = Ticket {
             rank,
             set: number as u64,
         };
     }
-    Some(len + count as usize)
+    Some(end)
 }
 
 // How many compromised sets the scenario of a rank has; none only if the rank is too great, or the plan was not counted.
@@ -40,10 +40,8 @@ fn sets_of(counted: &CountedPlan<'_>, rank: u64) -> Option<u64>
     };
     let mut rounds = [round; 64];
     let numbers = counted.numbers();
-    match counted.scenario(rank, &mut rounds) {
-        Ok(state) => count_sets(numbers.participants, numbers.faults, state).ok(),
-        Err(_) => None,
-    }
+    let state = counted.scenario(rank, &mut rounds).ok()?;
+    count_sets(numbers.participants, numbers.faults, state).ok()
 }
 
 // Writes a ticket for each set of the scenario of a rank behind the first `len`, and answers where they end.
@@ -61,30 +59,20 @@ fn note_rank(
     put_tickets(rank, count, tickets, len)
 }
 
-// Writes the tickets of every rank, in order, and answers how many; none if not all fit.
-pub(crate) fn list_every(counted: &CountedPlan<'_>, tickets: &mut [Ticket]) -> Option<usize>
-    ensures within { listings.Within result tickets.new }
-    ensures told { Counted counted.now.plan counted.now.total counted.now.memory.now → listings.Listed tickets.old (listed.tickets_of counted.now.plan (range_with_len 0 counted.now.total)) result tickets.new }
-{
-    let mut len = 0;
-    for rank in 0..counted.total() {
-        len = note_rank(counted, rank, tickets, len)?;
-    }
-    Some(len)
-}
-
 // Writes the tickets of these ranks, in order, and answers how many; none if not all fit.
-pub(crate) fn list_sampled(
+pub(crate) fn list_ranks<I: Iterator<Item = u64> + Drop>(
     counted: &CountedPlan<'_>,
-    ranks: &[RankSlot],
+    ranks: I,
     tickets: &mut [Ticket],
 ) -> Option<usize>
+    requires can { I.can_next ranks }
+    requires ends { IsFinite (I.remaining ranks) }
     ensures within { listings.Within result tickets.new }
-    ensures told { Counted counted.now.plan counted.now.total counted.now.memory.now → (chosen : List ℕ) → ranks.now ≡ map samples.slot chosen → AllByRecursion (λ k. k < counted.now.total) chosen → listings.Listed tickets.old (listed.tickets_of counted.now.plan chosen) result tickets.new }
+    ensures told { Counted counted.now.plan counted.now.total counted.now.memory.now → (chosen : List ℕ) → AlwaysYields I.next_gives (λ k. k) ranks chosen → AllByRecursion (λ k. k < counted.now.total) chosen → listings.Listed tickets.old (listed.tickets_of counted.now.plan chosen) result tickets.new }
 {
     let mut len = 0;
-    for slot in ranks {
-        len = note_rank(counted, slot.key, tickets, len)?;
+    for rank in ranks {
+        len = note_rank(counted, rank, tickets, len)?;
     }
     Some(len)
 }

@@ -5,7 +5,7 @@ ghost use Rattle.scenarios.specs.PlanCounts.{Counted};
 ghost use Rattle.campaigns.specs.Openings as openings;
 ghost use Rattle.campaigns.specs.Listings as listings;
 
-use crate::listing::{list_every, list_sampled};
+use crate::listing::list_ranks;
 use crate::ticket::Ticket;
 use refusals::Refusal;
 use sampling::{RankSlot, sample_unique_indices, shuffle_items};
@@ -67,7 +67,7 @@ fn list_chosen<S: Source>(
     let total = counted.total();
     let cap = counted.numbers().cap;
     if total <= cap {
-        return fitting(list_every(counted, tickets), ranks, tickets);
+        return fitting(list_ranks(counted, 0..total, tickets), ranks, tickets);
     }
     // with room for the sample, it is refused for want of words alone
     if (ranks.len() as u64) < cap {
@@ -75,7 +75,8 @@ fn list_chosen<S: Source>(
     }
     match sample_unique_indices(source, total, cap, ranks) {
         Ok(many) => {
-            let at = list_sampled(counted, &ranks[0..many as usize], tickets);
+            let chosen = ranks[0..many as usize].iter().map(|slot| slot.key);
+            let at = list_ranks(counted, chosen, tickets);
             fitting(at, ranks, tickets)
         }
         Err(refusal) => {

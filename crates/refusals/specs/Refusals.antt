@@ -31,27 +31,5 @@ number_of (PlanLine place) = 24
 
 -- the place of a text's fault: no other cause has one
 abbrev pub place_of : Refusal → Option ℕ
-place_of FewParticipants = None
-place_of ManyParticipants = None
-place_of NoFaults = None
-place_of ManyFaults = None
-place_of NoRounds = None
-place_of NoCap = None
-place_of ManyRounds = None
-place_of CountMemory = None
-place_of TotalTooLarge = None
-place_of RankMemory = None
-place_of WordsSpent = None
-place_of TicketMemory = None
-place_of RigNumber = None
-place_of NothingLeft = None
-place_of ShortMemory = None
-place_of OutOfRange = None
-place_of NotCanonical = None
-place_of NoTerm = None
-place_of ManyNames = None
-place_of NoNames = None
-place_of UnknownSender = None
-place_of GroupMemory = None
-place_of LeaderOutOfRange = None
 place_of (PlanLine place) = Some place
+place_of _ = None

@@ -1,14 +1,13 @@
 -- The numbers of a campaign that break no rule, its cells, and the answers that follow.
 use Rattle.std.proofs.Common.{◌≡◌, ℕ, ◌-◌, ◌<◌, ◌≤◌, Bool, true, false, cond, eqb, ltb, leb, List, [], length, get_or, take, Some, None, Option, sym, refl, ap, ◌∙◌, subst, arith}
-use Rattle.std.specs.List.{AllByRecursion}
 use Rattle.std.proofs.lemmas.List.{length-map, get_or-map}
 use Rattle.std.proofs.lemmas.Bool.{ltb-false, leb-false, le-ltb, le-leb, lt-leb}
 use Rattle.scenarios.specs.Cells.{total, cells, ranges_from}
 use Rattle.scenarios.proofs.States.{cells_stand}
 use Rattle.sets.specs.Sets.{amounts, firsts, sets, set_at}
 use Rattle.sets.specs.Answers.{faults_fault, set_fault}
-use Rattle.sets.proofs.Cellwise.{sizes_ranges}
-use Rattle.sets.specs.Ways.{sizes, Ways, allocated}
+use Rattle.sets.proofs.Cellwise.{sizes_ranges, row_of_ranges, members_of_ranges}
+use Rattle.sets.specs.Ways.{sizes, InRow, Ways, members_of, allocated}
 
 passes : (b : Bool) (k : ℕ) (o : Option ℕ) → cond b (Some k) o ≡ None → (b ≡ false) × (o ≡ None)
 passes true k o e = absurd (let z : ◌≡◌ {A = ℕ} 0 1 = cc in omega arith)
@@ -41,35 +40,31 @@ pub cells_whole : (n f s : ℕ) → faults_fault n f ≡ None → total (cells n
 cells_whole n f s e = let a = allowed n f e in (cells_stand n s (omega arith)).whole
 
 -- the cells of a campaign, as ranges
-pub record Held (n s : ℕ) (rs : List (ℕ × ℕ)) : Type 0 where
-  pub are : sizes rs ≡ cells n s
-  pub filled : AllByRecursion (λ c. 0 < c) (sizes rs)
-  pub small : total (sizes rs) ≤ 64
-  pub placed : rs ≡ ranges_from 0 (sizes rs)
 
-pub held : (n f s : ℕ) (rs : List (ℕ × ℕ)) (len : ℕ) → faults_fault n f ≡ None → take len rs ≡ ranges_from 0 (cells n s) → Held n s (take (len - 0) rs)
-held n f s rs len e told =
+pub front : (rs told : List (ℕ × ℕ)) (len : ℕ) → take len rs ≡ told → take (len - 0) rs ≡ told
+front rs told len e = ap (λ k. take k rs) (let z : len - 0 ≡ len = omega arith in z) ∙ e
+
+pub cells_in_row : (n f s : ℕ) (rs : List (ℕ × ℕ)) → faults_fault n f ≡ None → rs ≡ ranges_from 0 (cells n s) → InRow rs
+cells_in_row n f s rs e told =
     let a = allowed n f e in
     let stand = cells_stand n s (omega arith) in
-    let is : take (len - 0) rs ≡ ranges_from 0 (cells n s) = ap (λ k. take k rs) (let z : len - 0 ≡ len = omega arith in z) ∙ told in
-    let are : sizes (take (len - 0) rs) ≡ cells n s = ap sizes is ∙ sizes_ranges 0 (cells n s) in
-    let whole = ap total are ∙ stand.whole in
-    record {
-      are = are;
-      filled = subst (λ cs. AllByRecursion (λ c. 0 < c) cs) (sym are) stand.filled;
-      small = omega arith;
-      placed = is ∙ ap (ranges_from 0) (sym are);
-    }
+    let whole = stand.whole in
+    subst InRow (sym told) (0, row_of_ranges 0 (cells n s) stand.filled (omega arith))
 
-pub sets_counted : (n f s : ℕ) (rs : List (ℕ × ℕ)) (ways : List ℕ) → faults_fault n f ≡ None → Held n s rs → Ways ways (sizes rs) → get_or ways f 0 ≡ length (sets (cells n s) f)
+pub sets_counted : (n f s : ℕ) (rs : List (ℕ × ℕ)) (ways : List ℕ) → faults_fault n f ≡ None → rs ≡ ranges_from 0 (cells n s) → Ways ways (sizes rs) → get_or ways f 0 ≡ length (sets (cells n s) f)
 unfolding sets
-sets_counted n f s rs ways e held w =
-    w f (faults_few n f e) ∙ ap (λ cs. length (amounts cs f)) held.are ∙ sym (length-map (amounts (cells n s) f) (firsts 0 (cells n s)))
+sets_counted n f s rs ways e told w =
+    w f (faults_few n f e) ∙ ap (λ cs. length (amounts cs f)) (ap sizes told ∙ sizes_ranges 0 (cells n s)) ∙ sym (length-map (amounts (cells n s) f) (firsts 0 (cells n s)))
 
-pub set_allocated : (n f s k : ℕ) (rs : List (ℕ × ℕ)) → Held n s rs → k < length (amounts (sizes rs) f) → allocated rs 0 f k ≡ set_at (cells n s) f k
+pub set_allocated : (n f s k : ℕ) (rs : List (ℕ × ℕ)) → rs ≡ ranges_from 0 (cells n s) → k < length (sets (cells n s) f) → allocated rs f k ≡ set_at (cells n s) f k
 unfolding sets
-set_allocated n f s k rs held l =
-    sym (get_or-map (firsts 0 (sizes rs)) (amounts (sizes rs) f) k [] [] l) ∙ ap (λ cs. set_at cs f k) held.are
+set_allocated n f s k rs told l =
+    let cs = cells n s in
+    let long = length-map (amounts cs f) (firsts 0 cs) in
+    ap (λ l. allocated l f k) told
+    ∙ ap (λ l. members_of (ranges_from 0 cs) (get_or (amounts l f) k [])) (sizes_ranges 0 cs)
+    ∙ members_of_ranges 0 cs (get_or (amounts cs f) k [])
+    ∙ sym (get_or-map (firsts 0 cs) (amounts cs f) k [] [] (omega arith))
 
 -- what refuses a set once the campaign is allowed
 

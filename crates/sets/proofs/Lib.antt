@@ -1,5 +1,6 @@
 pub mod Members
 pub mod Rows
+pub mod Made
 pub mod Totals
 pub mod Joins
 pub mod Amounts

@@ -43,7 +43,6 @@ keys_rise n cs s few i j h l = go (cell_rises cs i j h) (cases_lt i j) (cases_lt
     go up (inl a) (inr c) (inr x) (inr y) = omega arith
 
 few_from_keys : (n : ℕ) (cs s : List ℕ) → RisingBelow n (key cs s) → FirstFew n cs s
-unfolding mark
 few_from_keys n cs s up i j h l same m = go (up i j (omega arith) l) (mark_is (member s i)) (ap mark m)
   where
     go : key cs s i ≤ key cs s j → Marked (member s i) → mark (member s j) ≡ mark true → member s i ≡ true

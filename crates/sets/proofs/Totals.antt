@@ -1,6 +1,8 @@
 -- Sums over numbers in a row.
-use Rattle.std.proofs.Common.{◌≡◌, ℕ, zero, suc, ◌+◌, ◌*◌, ◌<◌, ◌≤◌, ◌⊎◌, [], ◌∷◌, map, refl, ap, ◌∙◌, inl, inr, add-mul, arith}
+use Rattle.std.proofs.Common.{◌≡◌, ℕ, zero, suc, ◌+◌, ◌-◌, ◌*◌, ◌<◌, ◌≤◌, ◌⊎◌, List, [], ◌∷◌, map, length, get_or, take, drop, sum, refl, ap, ◌∙◌, inl, inr, add-mul, arith}
 use Rattle.std.specs.List.{range_with_len}
+use Rattle.std.proofs.lemmas.List.{drop_more}
+use Rattle.std.proofs.lemmas.List.Sums.{sum_by-cons}
 use Rattle.std.proofs.lemmas.List.FromFn.{map-range_with_len_more}
 use Rattle.std.proofs.lemmas.Bool.{cases_lt}
 use Rattle.scenarios.specs.Cells.{total}
@@ -42,4 +44,21 @@ total_at_most g b a (suc n) h =
     let x = h a in
     let y = total_at_most g b (a + 1) n h in
     let e : suc n * b ≡ n * b + b = ap (λ k. k * b) (let z : suc n ≡ n + 1 = omega arith in z) ∙ add-mul n 1 b ∙ (let z : n * b + 1 * b ≡ n * b + b = omega arith in z) in
+    omega arith
+
+-- the sum of the elements from place k back to place k - m
+pub back_total : (xs : List ℕ) (k m : ℕ) → m ≤ k → k < length xs → sum (take (m + 1) (drop (k - m) xs)) ≡ total (map (λ t. get_or xs (k - t) 0) (range_with_len 0 (m + 1)))
+back_total xs k zero h l =
+    let one = total_counting_more (λ t. get_or xs (k - t) 0) 0 in
+    let here = ap (λ ys. sum (take 1 ys)) (drop_more xs (k - 0) 0 (omega arith)) in
+    let is = sum_by-cons (λ x. x) (get_or xs (k - 0) 0) [] in
+    ap (λ n. sum (take n (drop (k - 0) xs))) (let e : 0 + 1 ≡ 1 = omega arith in e) ∙ (let z : sum (take 1 (drop (k - 0) xs)) ≡ total (map (λ t. get_or xs (k - t) 0) (range_with_len 0 (0 + 1))) = omega arith in z)
+back_total xs k (suc m) h l =
+    let ih = back_total xs k m (omega arith) l in
+    let more = total_counting_more (λ t. get_or xs (k - t) 0) (suc m) in
+    let few : total (map (λ t. get_or xs (k - t) 0) (range_with_len 0 (m + 1))) ≡ total (map (λ t. get_or xs (k - t) 0) (range_with_len 0 (suc m))) = ap (λ n. total (map (λ t. get_or xs (k - t) 0) (range_with_len 0 n))) (let e : m + 1 ≡ suc m = omega arith in e) in
+    let front : sum (take (suc m + 1) (drop (k - suc m) xs)) ≡ sum (get_or xs (k - suc m) 0 ∷ take (m + 1) (drop (k - suc m + 1) xs)) =
+    ap (λ ys. sum (take (suc m + 1) ys)) (drop_more xs (k - suc m) 0 (omega arith)) ∙ ap (λ n. sum (take n (get_or xs (k - suc m) 0 ∷ drop (k - suc m + 1) xs))) (let e : suc m + 1 ≡ suc (m + 1) = omega arith in e) in
+    let is = sum_by-cons (λ x. x) (get_or xs (k - suc m) 0) (take (m + 1) (drop (k - suc m + 1) xs)) in
+    let rest : sum (take (m + 1) (drop (k - suc m + 1) xs)) ≡ sum (take (m + 1) (drop (k - m) xs)) = ap (λ i. sum (take (m + 1) (drop i xs))) (let e : k - suc m + 1 ≡ k - m = omega arith in e) in
     omega arith

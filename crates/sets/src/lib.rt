@@ -3,23 +3,24 @@
 #![tactic(auto)]
 
 ghost use Rattle.std.specs.Prelude.{◌≡◌, ℕ, ◌+◌, ◌-◌, ◌^◌, ◌<◌, ◌≤◌, min, ◌++◌, length, take, drop, Some, None, Ok, Err, slice_index};
-ghost use Rattle.std.specs.List.{range_with_len, AllByRecursion};
+ghost use Rattle.std.specs.List.{range_with_len};
 ghost use Rattle.refusals.specs.Refusals.{number_of};
-ghost use Rattle.scenarios.specs.Cells.{cells, ranges_from, total};
+ghost use Rattle.scenarios.specs.Cells.{cells, ranges_from};
 ghost use Rattle.sets.specs.Sets.{amounts};
 ghost use Rattle.sets.specs.Ways as ways;
 ghost use Rattle.sets.specs.Answers.{faults_fault, SetsCounted, SetWritten};
 
 use refusals::Refusal;
 use scenarios::CellState;
+use std::array;
 
 // How many sets of so many faulty participants take a first few of each cell.
 pub fn count_sets(participants: usize, faults: usize, state: CellState) -> Result<u64, Refusal>
     ensures { SetsCounted participants faults state.boundaries result }
 {
     let (ranges, len) = campaign_cells(participants, faults, state)?;
-    let ways = ways_from(&ranges[0..len], 0);
-    Ok(ways[faults])
+    let cells = &ranges[0..len];
+    Ok(count_ways(cells)[faults])
 }
 
 // Writes the members of the set of a number, in front; what is refused leaves the memory as it was.
@@ -33,15 +34,14 @@ pub fn write_set(
     ensures { SetWritten participants faults state.boundaries number members.old result members.new }
 {
     let (ranges, len) = campaign_cells(participants, faults, state)?;
+    let cells = &ranges[0..len];
     if members.len() < faults {
         return Err(Refusal::ShortMemory);
     }
-    let cells = &ranges[0..len];
-    let ways = ways_from(cells, 0);
-    if number >= ways[faults] {
+    if number >= count_ways(cells)[faults] {
         return Err(Refusal::OutOfRange);
     }
-    allocate_faults(cells, 0, faults, number, members);
+    allocate_faults(cells, faults, number, members);
     Ok(())
 }
 
@@ -63,20 +63,15 @@ fn campaign_cells(
     Ok(told)
 }
 
-// How many sets the cells from `cell` on have, for each number of faults below 64.
-fn ways_from(ranges: &[(usize, usize)], cell: usize) -> [u64; 64]
-    requires filled { AllByRecursion (λ c. 0 < c) (ways.sizes ranges.now) }
-    requires small { total (ways.sizes ranges.now) ≤ 64 }
-    ensures { ways.Ways result (drop cell (ways.sizes ranges.now)) }
+// How many sets the cells have, for each number of faults below 64.
+fn count_ways(cells: &[(usize, usize)]) -> [u64; 64]
+    requires { ways.InRow cells.now }
+    ensures { ways.Ways result (ways.sizes cells.now) }
 {
-    if cell >= ranges.len() {
-        let mut none = [0; 64];
-        none[0] = 1;
-        return none;
-    }
-    let rest = ways_from(ranges, cell + 1);
-    let (_, len) = ranges[cell];
-    with_cell(&rest, len)
+    let [(_, len), rest @ ..] = cells else {
+        return array::from_fn(|faults| u64::from(faults == 0));
+    };
+    with_cell(&count_ways(rest), *len)
 }
 
 // How many sets there are with a cell of `len` before those that have `rest`, for each number of faults below 64.
@@ -84,11 +79,7 @@ fn with_cell(rest: &[u64; 64], len: usize) -> [u64; 64]
     requires { (k : ℕ) → k < 64 → ways.with_one_more rest.now len k < 2 ^ 64 }
     ensures { (k : ℕ) → k < 64 → slice_index result k ≡ ways.with_one_more rest.now len k }
 {
-    let mut ways = [0; 64];
-    for faults in 0..64usize {
-        ways[faults] = ways_of(rest, len, faults);
-    }
-    ways
+    array::from_fn(|faults| ways_of(rest, len, faults))
 }
 
 // How many sets of so many faults there are with a cell of `len` before those that have `rest`.
@@ -97,43 +88,23 @@ fn ways_of(rest: &[u64; 64], len: usize, faults: usize) -> u64
     requires fits { ways.with_one_more rest.now len faults < 2 ^ 64 }
     ensures { result ≡ ways.with_one_more rest.now len faults }
 {
-    let mut ways: u64 = 0;
-    for taken in 0..len.min(faults) + 1 {
-        ways += rest[faults - taken];
-    }
-    ways
+    rest[faults - len.min(faults)..=faults].iter().sum()
 }
 
-// Writes the members of the set of a number, of those that the cells from `cell` on have.
-fn allocate_faults(
-    ranges: &[(usize, usize)],
-    cell: usize,
-    faults: usize,
-    number: u64,
-    members: &mut [usize],
-)
-    requires filled { AllByRecursion (λ c. 0 < c) (ways.sizes ranges.now) }
-    requires small { total (ways.sizes ranges.now) ≤ 64 }
-    requires placed { ranges.now ≡ ranges_from 0 (ways.sizes ranges.now) }
+// Writes the members of the set of a number, of those that the cells have.
+fn allocate_faults(cells: &[(usize, usize)], faults: usize, number: u64, members: &mut [usize])
+    requires row { ways.InRow cells.now }
     requires few { faults < 64 }
     requires room { faults ≤ length members.old }
-    requires numbered { number < length (amounts (drop cell (ways.sizes ranges.now)) faults) }
-    ensures { members.new ≡ ways.allocated ranges.now cell faults number ++ drop faults members.old }
+    requires numbered { number < length (amounts (ways.sizes cells.now) faults) }
+    ensures { members.new ≡ ways.allocated cells.now faults number ++ drop faults members.old }
 {
-    if cell >= ranges.len() {
+    let [(start, len), rest @ ..] = cells else {
         return;
-    }
-    let rest = ways_from(ranges, cell + 1);
-    let (start, len) = ranges[cell];
-    let (taken, left) = find_taken(&rest, len, faults, number);
-    write_members(members, start, taken);
-    allocate_faults(
-        ranges,
-        cell + 1,
-        faults - taken,
-        left,
-        &mut members[taken..],
-    );
+    };
+    let (taken, left) = find_taken(&count_ways(rest), *len, faults, number);
+    write_members(members, *start, taken);
+    allocate_faults(rest, faults - taken, left, &mut members[taken..]);
 }
 
 // How many the set of a number takes from a cell of `len` before those that have `rest`, and its number there.
@@ -144,16 +115,15 @@ fn find_taken(rest: &[u64; 64], len: usize, faults: usize, number: u64) -> (usiz
     ensures below { result.1 < slice_index rest.now (faults - result.0) }
     ensures split { number ≡ ways.ways_below rest.now faults result.0 + result.1 }
 {
-    let most = len.min(faults);
+    let least = faults - len.min(faults);
     let mut left = number;
-    for taken in 0..most {
-        let owned = rest[faults - taken];
-        if left < owned {
+    for (taken, owned) in rest[least..=faults].iter().rev().enumerate() {
+        if left < *owned {
             return (taken, left);
         }
-        left -= owned;
+        left -= *owned;
     }
-    (most, left)
+    unreachable!()
 }
 
 // Writes so many participants from `start` on, in front.
@@ -162,7 +132,7 @@ fn write_members(members: &mut [usize], start: usize, taken: usize)
     requires small { start + taken ≤ 64 }
     ensures { members.new ≡ range_with_len start taken ++ drop taken members.old }
 {
-    for i in 0..taken {
-        members[i] = start + i;
+    for (i, member) in members[..taken].iter_mut().enumerate() {
+        *member = start + i;
     }
 }

@@ -23,9 +23,9 @@ fewer k (Some m) = Some (m - k)
 abbrev pub past : ℕ → Words → Words
 past k w = record { left = fewer k w.left; word = λ j. w.word (j + k) }
 
--- the words of a tape from a place on
-abbrev pub written : List ℕ → ℕ → Words
-written ws at = record { left = Some (length ws - at); word = λ k. slice_index ws (at + k) }
+-- the words of a tape, from the first on
+abbrev pub written : List ℕ → Words
+written ws = record { left = Some (length ws); word = slice_index ws }
 
 -- the first word, and then the later ones; or none, and all as it was
 abbrev pub Taken : Words → Result ℕ Refusal → Words → Type 0

@@ -25,6 +25,7 @@ pub trait Source {
 }
 
 // A number up to the bound, drawn from the words to come.
+#[tactic(auto, using(crate::proofs::Drawing::words_used, crate::proofs::Drawing::draw_spent))]
 pub fn draw_up_to<S: Source>(source: &mut S, bound: u64) -> Result<u64, Refusal>
     ensures drawn { Drawn bound (S.coming source.old) result (S.coming source.new) }
     ensures words { (bs : List ℕ) → WordsUsed bs (S.coming source.old) (draws bs (S.coming source.old)) }

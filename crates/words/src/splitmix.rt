@@ -20,6 +20,7 @@ impl SplitMix64 {
 }
 
 // Each bit of the answer depends on all bits of the state.
+#[tactic(auto, unfolding(crate::specs::Mixing::mix))]
 fn mixed(state: u64) -> u64
     ensures { result ≡ mixing.mix state }
 {

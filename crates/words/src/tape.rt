@@ -5,30 +5,27 @@ ghost use Rattle.words.specs.Words.{written};
 use crate::Source;
 use refusals::Refusal;
 
+// The words still to come.
 #[derive(Drop)]
 pub struct Tape<'t> {
     words: &'t [u64],
-    at: usize,
 }
 
 impl<'t> Tape<'t> {
     // The whole tape.
     pub fn new(words: &'t [u64]) -> Tape<'t>
-        ensures { (result.words.now ≡ words.now) × (result.at ≡ 0) }
+        ensures { result.words.now ≡ words.now }
     {
-        Tape { words, at: 0 }
+        Tape { words }
     }
 }
 
 impl Source for Tape<'_> {
-    ghost coming = { λ t. written t.words.now t.at };
+    ghost coming = { λ t. written t.words.now };
 
     fn take(&mut self) -> Result<u64, Refusal> {
-        if self.at >= self.words.len() {
-            return Err(Refusal::WordsSpent);
-        }
-        let word = self.words[self.at];
-        self.at += 1;
-        Ok(word)
+        let (word, rest) = self.words.split_first().ok_or(Refusal::WordsSpent)?;
+        self.words = rest;
+        Ok(*word)
     }
 }

@@ -15,11 +15,11 @@ use Rattle.views.specs.declared.target.SplitTarget.TheVariants.{Both}
 
 -- sampling: 5 ranks of 12, by the words 3 3 9 10 2
 abbrev five : List ℕ
-five = (draws (bounds 12 5) (written (3 ∷ 3 ∷ 9 ∷ 10 ∷ 2 ∷ []) 0)).numbers
+five = (draws (bounds 12 5) (written (3 ∷ 3 ∷ 9 ∷ 10 ∷ 2 ∷ []))).numbers
 
 -- the shuffle: a b c d, by the words 5 4 1
 abbrev three_draws : List ℕ
-three_draws = (draws (down_from 3) (written (5 ∷ 4 ∷ 1 ∷ []) 0)).numbers
+three_draws = (draws (down_from 3) (written (5 ∷ 4 ∷ 1 ∷ []))).numbers
 
 abbrev pub WorkedDraws : Type 0
 WorkedDraws =

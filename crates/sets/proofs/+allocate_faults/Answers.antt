@@ -1,29 +1,37 @@
-use Rattle.std.proofs.Common.{arith}
+use Rattle.std.proofs.Common.{◌++◌, ◌<◌, drop, length, sym, ap, ◌∙◌, subst, arith}
+use Rattle.sets.specs.Sets.{amounts}
+use Rattle.sets.specs.Ways.{sizes, InRow, allocated}
+use Rattle.sets.proofs.Cellwise.{cells_none, cells_more}
 use Rattle.sets.proofs.Ways.{ways_more}
-use Rattle.sets.proofs.Allocating.{allocated_past, allocated_written, cell_fits}
+use Rattle.sets.proofs.Allocating.{allocated_none, allocated_written, cell_fits}
 use Rattle.sets.proofs.+allocate_faults.Goals as goal
 
-pub returns-then-cell-ranges : goal.returns-then-cell-ranges
-returns-then-cell-ranges t c = allocated_past c.args.ranges.now c.args.cell c.args.faults c.args.number c.if-cell-ranges.true c.requires.numbered c.args.members.now
+pub returns-in_default : goal.returns-in_default
+returns-in_default t c =
+    let none = cells_none c.args.cells.now c.in_default.len_below in
+    allocated_none c.args.faults c.args.number c.args.members.now (subst (λ rs. c.args.number < length (amounts (sizes rs) c.args.faults)) none c.requires.numbered)
+    ∙ ap (λ rs. allocated rs c.args.faults c.args.number ++ drop c.args.faults c.args.members.now) (sym none)
 
 pub find_taken-taken-requires : goal.find_taken-taken-requires
 find_taken-taken-requires t c =
-    let is = ways_more c.args.ranges.now c.args.cell c.if-cell-ranges.false c.ways_from-rest.result c.ways_from-rest.ensures c.args.faults c.requires.few in
-    record { few = c.requires.few; numbered = omega (arith, is, c.requires.numbered) }
+    let e = cells_more c.args.cells.now c.in-len1-up.len_at_least in
+    let below = subst (λ rs. c.args.number < length (amounts (sizes rs) c.args.faults)) e c.requires.numbered in
+    record { few = c.requires.few; numbered = subst (λ n. c.args.number < n) (sym (ways_more c.count_ways.result _ _ c.count_ways.ensures c.args.faults c.requires.few)) below }
 
 pub write_members-requires : goal.write_members-requires
 write_members-requires t c =
     let found = c.find_taken-taken in
     let within = found.ensures.within in
+    let e = cells_more c.args.cells.now c.in-len1-up.len_at_least in
     record {
       room = omega arith;
-      small = cell_fits c.args.ranges.now c.args.cell c.args.faults c.args.number found.result.0 found.result.1 c.ways_from-rest.result c.if-cell-ranges.false c.requires.few
-          c.ways_from-rest.ensures within found.ensures.below found.ensures.split c.requires.placed c.requires.small;
+      small = cell_fits _ _ c.args.faults c.args.number found.result.0 found.result.1 c.count_ways.result c.requires.few c.count_ways.ensures within found.ensures.below found.ensures.split (subst InRow e c.requires.row);
     }
 
 pub returns : goal.returns
 returns t c =
     let found = c.find_taken-taken in
-    allocated_written c.args.ranges.now c.args.cell c.args.faults c.args.number found.result.0 found.result.1 c.ways_from-rest.result c.if-cell-ranges.false c.requires.few
-    c.ways_from-rest.ensures found.ensures.within found.ensures.below found.ensures.split c.requires.placed
+    let e = cells_more c.args.cells.now c.in-len1-up.len_at_least in
+    allocated_written _ _ c.args.faults c.args.number found.result.0 found.result.1 c.count_ways.result c.requires.few c.count_ways.ensures found.ensures.within found.ensures.below found.ensures.split
     c.args.members.now c.write_members.new.members c.allocate_faults.new.members c.requires.room c.write_members.ensures c.allocate_faults.ensures
+    ∙ ap (λ rs. allocated rs c.args.faults c.args.number ++ drop c.args.faults c.args.members.now) (sym e)

@@ -1,5 +1,5 @@
-use Rattle.std.proofs.Common.{◌-◌, length}
+use Rattle.std.proofs.Common.{length}
 use Rattle.sets.proofs.+allocate_faults.Given as goal
 
 abbrev pub decreases-allocate_faults : goal.decreases-allocate_faults
-decreases-allocate_faults l = length l.ranges.now - l.cell
+decreases-allocate_faults l = length l.cells.now

@@ -1,14 +1,13 @@
 use Rattle.scenarios.specs.Cells.{cells}
-use Rattle.sets.proofs.Campaigns.{held, cells_whole, sets_counted}
+use Rattle.sets.proofs.Campaigns.{front, cells_in_row, cells_whole, sets_counted}
 use Rattle.sets.proofs.Corresponding.{sets_correspond}
 use Rattle.sets.proofs.Sufficing.{sets_suffice}
 use Rattle.sets.proofs.count_sets.Goals as goal
 
-pub ways_from-ways-requires : goal.ways_from-ways-requires
-ways_from-ways-requires c =
+pub count_ways-requires : goal.count_ways-requires
+count_ways-requires c =
     let told = c.in_ok-ranges.ensures in
-    let h = held c.args.participants c.args.faults c.args.state.boundaries c.in_ok-ranges.ranges c.in_ok-ranges.len told.0 told.1 in
-    record { filled = h.filled; small = h.small }
+    cells_in_row c.args.participants c.args.faults c.args.state.boundaries _ told.0 (front _ _ _ told.1)
 
 pub returns : goal.returns
 returns c =
@@ -16,5 +15,4 @@ returns c =
     let f = c.args.faults in
     let s = c.args.state.boundaries in
     let told = c.in_ok-ranges.ensures in
-    let h = held n f s c.in_ok-ranges.ranges c.in_ok-ranges.len told.0 told.1 in
-    (told.0, sets_counted n f s _ c.ways_from-ways.result told.0 h c.ways_from-ways.ensures, sets_correspond n f (cells n s) (cells_whole n f s told.0), sets_suffice n f (cells n s))
+    (told.0, sets_counted n f s _ c.count_ways.result told.0 (front _ _ _ told.1) c.count_ways.ensures, sets_correspond n f (cells n s) (cells_whole n f s told.0), sets_suffice n f (cells n s))

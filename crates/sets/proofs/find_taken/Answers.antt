@@ -1,22 +1,21 @@
-use Rattle.std.proofs.Common.{◌≡◌, ℕ, ◌+◌, ◌-◌, ◌<◌, min, map, get_or, ap, arith}
-use Rattle.std.specs.List.{range_with_len}
-use Rattle.scenarios.specs.Cells.{total}
-use Rattle.sets.proofs.Totals.{total_counting_more}
+use Rattle.std.proofs.Common.{◌+◌, ◌-◌, ◌∷◌, [], length, ap, sym, ◌∙◌, arith, rules, length-append}
+use borrow.Rule.Slice.PartMut.{mid_of}
+use Rattle.std.proofs.lemmas.Iterator.Consumers.{YieldsList-from_enumerate, YieldsList-turn}
+use Rattle.std.proofs.lemmas.Iterator.Adapters.{YieldsList-from_rev_slice}
+use Rattle.sets.specs.Ways.{ways_below}
+use Rattle.sets.proofs.Ways.{owned_more}
 use Rattle.sets.proofs.find_taken.Goals as goal
 
 pub loop-taken-preserved : goal.loop-taken-preserved
 loop-taken-preserved c =
-    let more = total_counting_more (λ u. get_or c.args.rest.now (c.args.faults - u) 0) c.loop-taken.taken in
-    omega arith
-
-pub returns : goal.returns
-returns c =
-    let g : ℕ → ℕ = λ u. get_or c.args.rest.now (c.args.faults - u) 0 in
-    let most = min c.args.len c.args.faults in
-    let m = c.min-most.result in
-    let inv : c.args.number ≡ total (map g (range_with_len 0 c.loop-taken.taken)) + c.loop-taken.left = c.loop-taken.invariant in
-    let whole : c.args.number < total (map g (range_with_len 0 (most + 1))) = c.requires.numbered in
-    let same : total (map g (range_with_len 0 c.loop-taken.taken)) ≡ total (map g (range_with_len 0 m)) = ap (λ k. total (map g (range_with_len 0 k))) (let z : c.loop-taken.taken ≡ m = omega arith in z) in
-    let all : total (map g (range_with_len 0 (most + 1))) ≡ total (map g (range_with_len 0 (m + 1))) = ap (λ k. total (map g (range_with_len 0 (k + 1)))) (let z : most ≡ m = omega arith in z) in
-    let more : total (map g (range_with_len 0 (m + 1))) ≡ total (map g (range_with_len 0 m)) + g m = total_counting_more g m in
-    record { within = omega arith; below = omega arith; split = omega arith }
+    let ways = c.args.rest.now in
+    let k = c.args.faults in
+    let m = c.min.result in
+    let so_far = c.loop-taken.yielded in (
+      (tt, tt, search rules),
+      tt,
+      owned_more ways c.args.len k m c.min.ensures (omega arith) (length so_far) c.in-Some.taken c.in-Some.owned.now c.args.number c.loop-taken.left
+          (YieldsList-turn (YieldsList-from_enumerate (YieldsList-from_rev_slice (mid_of (k - m) (k + 1 - (k - m)) ways) cc) cc) so_far _ c.loop-taken.yielded_by _ _ _ c.in-Some.is c.next.ensures.steps)
+          c.if-left-owned.false c.loop-taken.invariant.2
+          ∙ ap (λ n. ways_below ways k n + (c.loop-taken.left - c.in-Some.owned.now)) (sym (length-append so_far ((c.in-Some.taken, c.in-Some.owned) ∷ []))),
+    )

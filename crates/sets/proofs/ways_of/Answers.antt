@@ -1,14 +1,14 @@
-use Rattle.std.proofs.Common.{◌+◌, ◌-◌, min, get_or, arith}
-use Rattle.sets.proofs.Totals.{total_counting_more, total_counting_part}
+use Rattle.std.proofs.Common.{◌^◌, ◌<◌, ◌∙◌, ap, sum, arith, rules}
+use Rattle.sets.proofs.Ways.{ways_summed}
 use Rattle.sets.proofs.ways_of.Goals as goal
 
-pub overflow_add-ways : goal.overflow_add-ways
-overflow_add-ways c =
-    let t = c.loop-taken.taken in
-    let part = total_counting_part (λ u. get_or c.args.rest.now (c.args.faults - u) 0) t (min c.args.len c.args.faults + 1) (omega arith) in
-    omega arith
+pub sum-requires-clause-fits : goal.sum-requires-clause-fits
+sum-requires-clause-fits c =
+    let e = ap sum c.iter.ensures.rest ∙ ways_summed c.args.rest.now c.args.len c.args.faults c.min.result c.min.ensures (omega arith) in
+    let fits : sum c.iter.result.rest.now < 2 ^ 64 = omega arith in
+    search rules
 
-pub loop-taken-preserved : goal.loop-taken-preserved
-loop-taken-preserved c =
-    let more = total_counting_more (λ u. get_or c.args.rest.now (c.args.faults - u) 0) c.loop-taken.taken in
-    omega arith
+pub returns : goal.returns
+returns c =
+    let e = ap sum c.iter.ensures.rest ∙ ways_summed c.args.rest.now c.args.len c.args.faults c.min.result c.min.ensures (omega arith) in
+    search rules

@@ -1,23 +1,21 @@
 use Rattle.std.proofs.Common.{◌<◌, ◌≤◌, ◌++◌, length, drop, refl, ap, ◌∙◌, arith}
 use Rattle.scenarios.specs.Cells.{cells}
 use Rattle.sets.specs.Sets.{sets}
-use Rattle.sets.proofs.Campaigns.{faults_few, held, sets_counted, set_allocated, no_such_number, no_fault}
+use Rattle.sets.proofs.Campaigns.{front, faults_few, cells_in_row, sets_counted, set_allocated, no_such_number, no_fault}
 use Rattle.sets.proofs.write_set.Goals as goal
 
-pub ways_from-ways-requires : goal.ways_from-ways-requires
-ways_from-ways-requires c =
+pub count_ways-requires : goal.count_ways-requires
+count_ways-requires c =
     let told = c.in_ok-ranges.ensures in
-    let h = held c.args.participants c.args.faults c.args.state.boundaries c.in_ok-ranges.ranges c.in_ok-ranges.len told.0 told.1 in
-    record { filled = h.filled; small = h.small }
+    cells_in_row c.args.participants c.args.faults c.args.state.boundaries _ told.0 (front _ _ _ told.1)
 
-pub returns-then-number-ways : goal.returns-then-number-ways
-returns-then-number-ways c =
+pub returns-then-number-count_ways : goal.returns-then-number-count_ways
+returns-then-number-count_ways c =
     let n = c.args.participants in
     let f = c.args.faults in
     let s = c.args.state.boundaries in
     let told = c.in_ok-ranges.ensures in
-    let h = held n f s c.in_ok-ranges.ranges c.in_ok-ranges.len told.0 told.1 in
-    let count = sets_counted n f s _ c.ways_from-ways.result told.0 h c.ways_from-ways.ensures in
+    let count = sets_counted n f s _ c.count_ways.result told.0 (front _ _ _ told.1) c.count_ways.ensures in
     let high : length (sets (cells n s) f) ≤ c.args.number = omega arith in
     (no_such_number n f s c.args.number (length c.args.members.now) told.0 c.if-members-faults.false high, refl)
 
@@ -27,10 +25,9 @@ allocate_faults-requires c =
     let f = c.args.faults in
     let s = c.args.state.boundaries in
     let told = c.in_ok-ranges.ensures in
-    let h = held n f s c.in_ok-ranges.ranges c.in_ok-ranges.len told.0 told.1 in
     let few = faults_few n f told.0 in
-    let count = c.ways_from-ways.ensures f few in
-    record { filled = h.filled; small = h.small; placed = h.placed; few = few; room = c.if-members-faults.false; numbered = omega arith }
+    let count = c.count_ways.ensures f few in
+    record { row = cells_in_row n f s _ told.0 (front _ _ _ told.1); few = few; room = c.if-members-faults.false; numbered = omega arith }
 
 pub returns : goal.returns
 returns c =
@@ -38,10 +35,9 @@ returns c =
     let f = c.args.faults in
     let s = c.args.state.boundaries in
     let told = c.in_ok-ranges.ensures in
-    let h = held n f s c.in_ok-ranges.ranges c.in_ok-ranges.len told.0 told.1 in
-    let long = c.ways_from-ways.ensures f (faults_few n f told.0) in
-    let count = sets_counted n f s _ c.ways_from-ways.result told.0 h c.ways_from-ways.ensures in
+    let is = front _ _ _ told.1 in
+    let count = sets_counted n f s _ c.count_ways.result told.0 is c.count_ways.ensures in
     let low : c.args.number < length (sets (cells n s) f) = omega arith in (
       no_fault n f s c.args.number (length c.args.members.now) told.0 c.if-members-faults.false low,
-      c.allocate_faults.ensures ∙ ap (λ l. l ++ drop f c.args.members.now) (set_allocated n f s c.args.number _ h (omega arith)),
+      c.allocate_faults.ensures ∙ ap (λ l. l ++ drop f c.args.members.now) (set_allocated n f s c.args.number _ is low),
     )

@@ -1,6 +1,6 @@
-use Rattle.std.proofs.Common.{◌+◌, ◌++◌, take}
-use Rattle.campaigns.specs.Listings.{numbered, Front}
+use Rattle.std.proofs.Common.{◌≡◌, ◌++◌, drop}
+use Rattle.campaigns.specs.Listings.{numbered}
 use Rattle.campaigns.proofs.listing.put_tickets.Given as goal
 
 abbrev pub invariant-loop-number : goal.invariant-loop-number
-invariant-loop-number l = Front l.initial.tickets (take l.len l.initial.tickets ++ numbered l.rank l.number) (l.len + l.number) l.tickets
+invariant-loop-number l = l.ticket-items ≡ numbered l.rank l.number ++ drop l.number l.initial.ticket-items
