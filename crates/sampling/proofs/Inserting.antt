@@ -1,24 +1,24 @@
 -- Members of a list, by place, and of a table of ranks.
-use Rattle.std.proofs.Common.{◌≡◌, ℕ, zero, suc, ◌<◌, Bool, true, false, ◌||◌, eqb, ◌≢◌, List, [], ◌∷◌, map, length, get_or, Some, None, sym, refl, ap, ◌∙◌, arith}
+use Rattle.std.proofs.Common.{◌≡◌, ℕ, ◌<◌, true, false, ◌||◌, ◌==◌, ◌≢◌, List, [], ◌∷◌, map, length, get_or, Some, None, sym, refl, ap, ◌∙◌, arith}
+use Rattle.std.specs.List.{list_any}
 use Rattle.std.proofs.lemmas.List.{length-map, get_or-map}
 use Rattle.std.proofs.lemmas.Bool.{eq-eqb, ne_eqb, cond-true, cond-false}
+use Rattle.std.proofs.lemmas.List.Elements.{All-from_get_or}
+use Rattle.std.proofs.lemmas.List.Folds.{list_any_at, list_any_none}
 use Rattle.table.specs.Places.{Place}
 use Rattle.orders.specs.Members.{member}
 use Rattle.sampling.specs.Floyd.{inserted}
 use Rattle.sampling.specs.Samples.{Slot, slot}
 
+member_is : (s : List ℕ) (x : ℕ) → member s x ≡ list_any (λ y. y == x) s
+member_is [] x = refl
+member_is (y ∷ s) x = ap (λ b. y == x || b) (member_is s x)
+
 pub member_at : (s : List ℕ) (i x : ℕ) → i < length s → get_or s i 0 ≡ x → member s x ≡ true
-member_at [] i x h e = absurd (omega arith)
-member_at (y ∷ s) zero x h e = ap (λ b. b || member s x) (eq-eqb y x e)
-member_at (y ∷ s) (suc i) x h e = go (eqb y x) (member_at s i x (omega arith) e)
-  where
-    go : (b : Bool) → member s x ≡ true → (b || member s x) ≡ true
-    go true m = refl
-    go false m = m
+member_at s i x h e = member_is s x ∙ list_any_at (λ y. y == x) s i 0 h (eq-eqb (get_or s i 0) x e)
 
 pub member_none : (s : List ℕ) (x : ℕ) → ((i : ℕ) → i < length s → get_or s i 0 ≢ x) → member s x ≡ false
-member_none [] x h = refl
-member_none (y ∷ s) x h = ap (λ b. b || member s x) (ne_eqb y x (h 0 (omega arith))) ∙ member_none s x (λ i l. h (suc i) (omega arith))
+member_none s x h = member_is s x ∙ list_any_none (λ y. y == x) s (All-from_get_or (λ y. (y == x) ≡ false) s 0 (λ i l. ne_eqb (get_or s i 0) x (h i l)))
 
 -- a search of the ranks s for x; where it finds x, the bound j is inserted, else x
 module _ (xs : List Slot) (s : List ℕ) (holds : xs ≡ map slot s) (x j : ℕ) where

@@ -1,16 +1,13 @@
 -- The turns of the sampling loop.
-use Rattle.std.proofs.Common.{◌≡◌, ℕ, suc, ◌+◌, ◌-◌, ◌<◌, ◌≤◌, false, List, [], ◌∷◌, ◌++◌, map, length, take, drop, set, Some, None, sym, refl, ap, ◌∙◌, subst, arith}
+use Rattle.std.proofs.Common.{◌≡◌, ℕ, suc, ◌+◌, ◌-◌, ◌<◌, ◌≤◌, List, [], ◌∷◌, ◌++◌, map, length, take, drop, set, Some, None, sym, refl, ap, ◌∙◌, subst, arith}
 use Rattle.std.specs.List.{range_with_len}
-use Rattle.std.proofs.lemmas.List.{length-append, length-drop, length-map, map-append, take_at}
-use Rattle.std.proofs.ByRecursion.{All-get_or}
+use Rattle.std.proofs.lemmas.List.{length-append, length-map, map-append, take_at}
 use Rattle.table.proofs.Writes.{write_more}
 use Rattle.words.specs.Words.{Words}
 use Rattle.words.specs.Draws.{draw, draws}
 use Rattle.words.proofs.Drawing.{After, after_more, after_all, after_spent, draw_below}
-use Rattle.orders.specs.Members.{member}
 use Rattle.sampling.specs.Floyd.{bounds, inserted, inserting, sample, Sample}
 use Rattle.sampling.specs.Samples.{Slot, slot, Sampled}
-use Rattle.sampling.proofs.Inserting.{member_none}
 use Rattle.sampling.proofs.Sampling.{sample_none, sample_more}
 
 inserting_push : (s : List ℕ) (j t : ℕ) (ts : List ℕ) → inserting s j (ts ++ (t ∷ [])) ≡ inserting s j ts ++ (inserted (inserting s j ts) t (j + length ts) ∷ [])

@@ -1,6 +1,5 @@
 // Sampling as Bentley and Floyd published it, over a keyed table in rank memory that the caller lends.
-ghost use Rattle.std.specs.Prelude.{◌≡◌, ℕ, ◌<◌, false, List, ◌++◌, map, length, take, slice_set};
-ghost use Rattle.orders.specs.Members.{member};
+ghost use Rattle.std.specs.Prelude.{◌≡◌, ℕ, List, map};
 ghost use Rattle.sampling.specs.Floyd.{inserted};
 ghost use Rattle.sampling.specs.Samples as samples;
 

@@ -9,6 +9,7 @@ use words::{Source, draw_up_to};
 pub fn shuffle_items<T, S: Source>(items: &mut [T], source: &mut S) -> Result<(), Refusal>
     ensures { shuffles.ShuffleTold items.old (S.coming source.old) result (S.coming source.new) items.new }
 {
+    // By positions, since a shuffle is defined as exchanges of positions, from the last down.
     for i in (1..items.len()).rev() {
         let j = draw_up_to(source, i as u64)?;
         items.swap(i, j as usize);

@@ -1,4 +1,4 @@
-use Rattle.std.proofs.Common.{◌≡◌, ◌+◌, ◌<◌, ◌≤◌, length, replicate, sym, ap, ◌∙◌, subst, inr, arith}
+use Rattle.std.proofs.Common.{◌≡◌, ◌≤◌, length, replicate, sym, ap, ◌∙◌, subst, inr, arith}
 use Rattle.sampling.specs.Samples.{slot, Sampled, SamplingRefused}
 use Rattle.sampling.proofs.Turns.{PartSampled, part_more, part_spent, part_all}
 use Rattle.sampling.proofs.sample.sample_unique_indices.Goals as goal

@@ -1,4 +1,4 @@
-use Rattle.std.proofs.Common.{◌-◌, ◌<◌, length, Err, sym, ap, ◌∙◌, subst, arith}
+use Rattle.std.proofs.Common.{Err, sym, ap, ◌∙◌, subst, arith}
 use Rattle.std.proofs.lemmas.Result.{err_from_is_err_and}
 use Rattle.sampling.specs.Shuffles.{ShuffleTold}
 use Rattle.words.proofs.Drawing.{draw_below}
@@ -11,11 +11,10 @@ returns-in_err-j g c =
     subst (λ x. ShuffleTold c.args.items.now (g.S.Source.coming c.args.source.now) x (g.S.Source.coming c.draw_up_to.new.source) c.loop-i.items) (sym (r.1 ∙ ap Err r.2))
     (shuffle_spent c.args.items.now (g.S.Source.coming c.args.source.now) c.loop-i.i (g.S.Source.coming c.loop-i.source) c.loop-i.items c.loop-i.invariant c.in_err-j.field-0.0 _ c.loop-i-test.true c.in_err-j.ensures.drawn)
 
-pub swap-requires : goal.swap-requires
-swap-requires g c =
+pub swap-requires-clause-b_in_bounds : goal.swap-requires-clause-b_in_bounds
+swap-requires-clause-b_in_bounds g c =
     let low = draw_below _ c.in_ok-j.j _ _ c.in_ok-j.ensures.drawn in
-    let most : c.loop-i.i - 1 < length c.loop-i.items = omega (arith, c.loop-i.invariant.place, c.loop-i.invariant.long, c.loop-i-test.true) in
-    record { a_in_bounds = most; b_in_bounds = omega arith }
+    omega (arith, c.loop-i.invariant.place, c.loop-i.invariant.long, c.loop-i-test.true)
 
 pub loop-i-preserved : goal.loop-i-preserved
 loop-i-preserved g c =
