@@ -8,7 +8,7 @@ use Rattle.views.proofs.split.view_route.Goals as goal
 
 pub returns-in_err-cut : goal.returns-in_err-cut
 returns-in_err-cut g c =
-    let value = g.N.Name.value in
+    let value = g.N.Key.meaning in
     let sender = value c.args.sender.now in
     let names = c.args.names.now in
     let e = split_refused value c.args.term c.args.view sender names (number_of c.in_err-cut.field-0.0) c.in_err-cut.ensures in
@@ -17,7 +17,7 @@ returns-in_err-cut g c =
 
 pub returns-then-second : goal.returns-then-second
 returns-then-second g c =
-    let value = g.N.Name.value in
+    let value = g.N.Key.meaning in
     let sender = value c.args.sender.now in
     let names = c.args.names.now in
     let known = c.in_ok-cut.ensures in
@@ -31,7 +31,7 @@ returns-then-second g c =
 
 pub returns-else-second : goal.returns-else-second
 returns-else-second g c =
-    let value = g.N.Name.value in
+    let value = g.N.Key.meaning in
     let sender = value c.args.sender.now in
     let names = c.args.names.now in
     let known = c.in_ok-cut.ensures in

@@ -8,7 +8,7 @@ use Rattle.views.proofs.groups.Scenario.route.Goals as goal
 
 pub returns-in_err-term : goal.returns-in_err-term
 returns-in_err-term g c =
-    let value = g.N.Name.value in
+    let value = g.N.Key.meaning in
     let rounds = c.args.self.now.rounds.now in
     let sender = value c.args.sender.now in
     let names = c.args.names.now in
@@ -18,7 +18,7 @@ returns-in_err-term g c =
 
 pub returns-in-None : goal.returns-in-None
 returns-in-None g c =
-    let value = g.N.Name.value in
+    let value = g.N.Key.meaning in
     let rounds = c.args.self.now.rounds.now in
     let sender = value c.args.sender.now in
     let names = c.args.names.now in
@@ -29,7 +29,7 @@ returns-in-None g c =
 
 pub returns-in-Some : goal.returns-in-Some
 returns-in-Some g c =
-    let value = g.N.Name.value in
+    let value = g.N.Key.meaning in
     let rounds = c.args.self.now.rounds.now in
     let sender = value c.args.sender.now in
     let names = c.args.names.now in
