@@ -34,6 +34,7 @@ impl TermLength {
     }
 
     // The number of the term with this view: 0 for view 0, from 1 on for the others.
+    #[tactic(auto, using(crate::proofs::Indices::index_is))]
     pub fn index(&self, view: u64) -> u64
         ensures { result ≡ terms.term_index self.now.length view }
     {

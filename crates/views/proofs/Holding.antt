@@ -1,5 +1,6 @@
 -- Which lists of values hold a value, and where. Assumes nothing.
 use Rattle.std.proofs.Common.{◌≡◌, ℕ, suc, ◌+◌, Bool, true, false, cond, not, ◌||◌, ltb, List, [], ◌∷◌, ◌++◌, map, length, get_or, Decides, sym, refl, ap, ◌∙◌, arith, rules}
+use Rattle.std.proofs.Math.Bool.{or_assoc}
 use Rattle.std.proofs.lemmas.Slice.Eq.{compares_Decides}
 use Rattle.std.proofs.lemmas.List.{length-map}
 use Rattle.std.proofs.lemmas.Bool.{ltb-true, lt-ltb}
@@ -21,16 +22,12 @@ ltb_cond false p n = grind (arith, nat_tests)
 pub holds_cons : (v y : List ℕ) (ys : List (List ℕ)) → holds v (y ∷ ys) ≡ (same_value y v || holds v ys)
 holds_cons v y ys = ltb_cond (same_value y v) (place_of v ys) (length ys)
 
-or_assoc : (a b c : Bool) → (a || (b || c)) ≡ ((a || b) || c)
-or_assoc true b c = refl
-or_assoc false b c = refl
-
 pub holds_append : (v : List ℕ) (xs ys : List (List ℕ)) → holds v (xs ++ ys) ≡ (holds v xs || holds v ys)
 holds_append v [] ys = refl
 holds_append v (x ∷ xs) ys =
     holds_cons v x (xs ++ ys)
     ∙ ap (λ b. same_value x v || b) (holds_append v xs ys)
-    ∙ or_assoc (same_value x v) (holds v xs) (holds v ys)
+    ∙ sym (or_assoc (same_value x v) (holds v xs) (holds v ys))
     ∙ ap (λ b. b || holds v ys) (sym (holds_cons v x xs))
 
 -- what stands at the place of a value is that value

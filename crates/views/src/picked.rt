@@ -26,6 +26,7 @@ fn fill<N: Copy>(
 {
     let mut p: usize = 0;
     let mut s: usize = 0;
+    // By index, since both masks are asked about each place.
     for i in 0..names.len() {
         if mask_contains(round.primary, i) {
             primary[p] = names[i];
