@@ -34,14 +34,11 @@ impl TermLength {
     }
 
     // The number of the term with this view: 0 for view 0, from 1 on for the others.
+    #[tactic(auto, using(crate::proofs::Indices::index_is))]
     pub fn index(&self, view: u64) -> u64
         ensures { result ≡ terms.term_index self.now.length view }
     {
-        if view == 0 {
-            0
-        } else {
-            (view - 1) / u64::from(self.length) + 1
-        }
+        view.div_ceil(u64::from(self.length))
     }
 
     // The place of the round that a script plays at this view.
@@ -52,6 +49,7 @@ impl TermLength {
     }
 
     // The first view of the term with this view.
+    #[tactic(auto, using(crate::proofs::Indices::start_below))]
     pub fn start(&self, view: u64) -> u64
         ensures { result ≡ terms.term_start self.now.length view }
     {

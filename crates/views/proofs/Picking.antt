@@ -1,9 +1,10 @@
 -- The names that a mask picks, name by name. Assumes nothing.
 use Rattle.std.proofs.Common.{◌≡◌, ℕ, suc, ◌+◌, ◌<◌, ◌≤◌, Bool, true, false, cond, List, [], ◌∷◌, ◌++◌, length, get_or, take, drop, set, sym, refl, ap, ◌∙◌, subst, arith}
-use Rattle.std.proofs.lemmas.List.{length-append, length-take-le, take_more, take-append-drop, get_or_default}
+use Rattle.std.proofs.lemmas.List.{length-append, length-take-le, take_more, take-append-drop, get_or_default, append-nil, length_push}
+use Rattle.std.specs.List.{filter, range_with_len}
 use Rattle.scenarios.specs.Masks.{bit}
 use Rattle.views.specs.Groups.{picked}
-use Rattle.views.proofs.Writing.{Put, put_chosen}
+use Rattle.views.proofs.Writing.{Put, put_more}
 
 module _ {X : Type 0} (mask : ℕ) where
   cond_append : (b : Bool) (x : X) (us vs ws : List X) → us ≡ vs ++ ws → cond b (x ∷ us) us ≡ cond b (x ∷ vs) vs ++ ws
@@ -38,28 +39,54 @@ module _ {X : Type 0} (mask : ℕ) where
   length_one true y = refl
   length_one false y = refl
 
-  -- one turn of the loop that counts
-  pub length_picked_more : (xs : List X) (i : ℕ) → i < length xs → length (picked mask 0 (take (i + 1) xs)) ≡ length (picked mask 0 (take i xs)) + cond (bit mask i) 1 0
-  length_picked_more [] i h = absurd (omega arith)
-  length_picked_more (x ∷ xs) i h =
-      let y : X = get_or (x ∷ xs) i x in
-      ap length (picked_more (x ∷ xs) i y h (get_or_default (x ∷ xs) i x y h))
-      ∙ length-append (picked mask 0 (take i (x ∷ xs))) (cond (bit mask i) (y ∷ []) [])
-      ∙ ap (λ n. length (picked mask 0 (take i (x ∷ xs))) + n) (length_one (bit mask i) y)
+  -- there is a name at each place
+  there : (xs : List X) (i : ℕ) → i < length xs → (y : X) × (y ≡ get_or xs i y)
+  there [] i h = absurd (omega arith)
+  there (x ∷ xs) i h = (get_or (x ∷ xs) i x, get_or_default (x ∷ xs) i x _ h)
 
-  -- before a name that is picked, the group is not yet whole
-  pub length_picked_below : (xs : List X) (i : ℕ) (b : Bool) → i < length xs → b ≡ bit mask i → b ≡ true → length (picked mask 0 (take i xs)) < length (picked mask 0 xs)
-  length_picked_below xs i b h t e =
-      let front = picked_front xs (i + 1) in
-      let more = length_picked_more xs i h ∙ ap (λ k. length (picked mask 0 (take i xs)) + cond k 1 0) (sym t ∙ e) in
-      omega arith
+  length_picked_more : (xs : List X) (i : ℕ) → i < length xs → length (picked mask 0 (take (i + 1) xs)) ≡ length (picked mask 0 (take i xs)) + cond (bit mask i) 1 0
+  length_picked_more xs i h =
+      let (y, r) = there xs i h in
+      ap length (picked_more xs i y h r)
+      ∙ length-append (picked mask 0 (take i xs)) (cond (bit mask i) (y ∷ []) [])
+      ∙ ap (λ n. length (picked mask 0 (take i xs)) + n) (length_one (bit mask i) y)
 
-  -- one turn of the loop that writes
-  pub put_picked : (xs ms ys ys' : List X) (i next next' : ℕ) (y : X) (b : Bool) → i < length xs → y ≡ get_or xs i y → b ≡ bit mask i
-      → length (picked mask 0 xs) ≤ length ms → Put (picked mask 0 (take i xs)) ms next ys
-      → next' ≡ next + cond b 1 0 → ys' ≡ cond b (set ys next y) ys → Put (picked mask 0 (take (i + 1) xs)) ms next' ys'
-  put_picked xs ms ys ys' i next next' y b h r t room p e f =
-      let more : picked mask 0 (take (i + 1) xs) ≡ picked mask 0 (take i xs) ++ cond b (y ∷ []) [] =
-      picked_more xs i y h r ∙ ap (λ k. picked mask 0 (take i xs) ++ cond k (y ∷ []) []) (sym t) in
-      let P : List X → Type 0 = λ l. Put l ms next' ys' in
-      subst P (sym more) (put_chosen b (picked mask 0 (take i xs)) ms ys ys' next next' y (λ q. let below = length_picked_below xs i b h t q in omega arith) p e f)
+  length_cond : (b : Bool) (k : ℕ) (x : X) (ns : List ℕ) (us : List X) → length ns ≡ length us → length (cond b (k ∷ ns) ns) ≡ length (cond b (x ∷ us) us)
+  length_cond true k x ns us e = ap suc e
+  length_cond false k x ns us e = e
+
+  -- as many names are picked as places are in the mask
+  pub length_picked : (j : ℕ) (xs : List X) → length (filter (bit mask) (range_with_len j (length xs))) ≡ length (picked mask j xs)
+  length_picked j [] = refl
+  length_picked j (x ∷ xs) = length_cond (bit mask j) j x _ _ (length_picked (j + 1) xs)
+
+  -- a turn of the loop that writes
+  module _ (xs ms ys : List X) (i next : ℕ) (below : i < length xs) (written : Put (picked mask 0 (take i xs)) ms next ys) where
+    -- before a name that is picked, the group is not yet whole
+    pub room : bit mask i ≡ true → length (picked mask 0 xs) ≤ length ms → length ms ≡ length ys → next < length ys
+    room t h e =
+        let front = picked_front xs (i + 1) in
+        let more = length_picked_more xs i below ∙ ap (λ b. length (picked mask 0 (take i xs)) + cond b 1 0) t in
+        let at = written.place in
+        omega arith
+
+    -- the name is written
+    pub picked_here : (y : X) (next' : ℕ) (ys' : List X) → bit mask i ≡ true → y ≡ get_or xs i y → length (picked mask 0 xs) ≤ length ms
+        → next' ≡ next + 1 → ys' ≡ set ys next y → Put (picked mask 0 (take (i + 1) xs)) ms next' ys'
+    picked_here y next' ys' t r h e f =
+        let more : picked mask 0 (take (i + 1) xs) ≡ picked mask 0 (take i xs) ++ (y ∷ []) =
+        picked_more xs i y below r ∙ ap (λ b. picked mask 0 (take i xs) ++ cond b (y ∷ []) []) t in
+        let front = picked_front xs (i + 1) in
+        let one = ap length more ∙ length_push (picked mask 0 (take i xs)) y in
+        let p = put_more (picked mask 0 (take i xs)) ms ys next y (omega arith) written in
+        let P : List X → Type 0 = λ l. Put l ms next' ys' in
+        subst P (sym more) (record { place = e ∙ p.place; written = f ∙ p.written })
+
+    -- or passed over
+    pub passed_here : (next' : ℕ) (ys' : List X) → bit mask i ≡ false → next' ≡ next → ys' ≡ ys → Put (picked mask 0 (take (i + 1) xs)) ms next' ys'
+    passed_here next' ys' t e f =
+        let (y, r) = there xs i below in
+        let more : picked mask 0 (take (i + 1) xs) ≡ picked mask 0 (take i xs) =
+        picked_more xs i y below r ∙ ap (λ b. picked mask 0 (take i xs) ++ cond b (y ∷ []) []) t ∙ append-nil _ in
+        let P : List X → Type 0 = λ l. Put l ms next' ys' in
+        subst P (sym more) (record { place = e ∙ written.place; written = f ∙ written.written })

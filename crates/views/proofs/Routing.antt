@@ -1,17 +1,13 @@
 -- The route of a script, by what is known of the term, of the round and of the sender. Assumes nothing.
-use Rattle.std.proofs.Common.{◌≡◌, ℕ, ◌<◌, ◌≤◌, Bool, true, false, cond, eqb, ltb, List, map, length, Some, None, Ok, Err, Option, Result, sym, refl, ap, ◌∙◌, zero-add, arith}
+use Rattle.std.proofs.Common.{◌≡◌, ℕ, Bool, true, false, cond, eqb, ltb, List, map, length, Some, None, Ok, Err, Option, Result, sym, refl, ap, ◌∙◌, zero-add, arith}
 use Rattle.std.proofs.lemmas.List.{length-map}
-use Rattle.std.proofs.lemmas.Bool.{lt-ltb, le-ltb}
 use Rattle.refusals.specs.declared.Refusal.{Refusal}
 use Rattle.scenarios.specs.declared.round.RoundScenario.{RoundScenario}
 use Rattle.scenarios.specs.Masks.{bit}
 use Rattle.views.specs.declared.target.SplitTarget.{SplitTarget}
-use Rattle.views.specs.declared.target.SplitTarget.TheVariants.{Both}
 use Rattle.views.specs.Groups.{round_at, primary_group, secondary_group, script_fault, or_else}
-use Rattle.views.specs.Memories.{UnlessFault}
 use Rattle.views.specs.Routes.{target_of, reaches_primary, reaches_secondary, place_of, holds, sender_fault, route_fault, scripted_target, RouteTold, Distinct, RouteAgrees}
 use Rattle.views.proofs.Agreeing.{holds_picked}
-use Rattle.views.proofs.Holding.{holds_from_place}
 
 -- of two faults that come to none, the first is none
 pub first_none : (a b : Option ℕ) → or_else a b ≡ None → a ≡ None
@@ -31,12 +27,6 @@ reaches_secondary_of false true = refl
 reaches_secondary_of true true = refl
 
 module _ {N : Type 0} (value : N → List ℕ) (sender : List ℕ) (names : List N) where
-  pub sender_listed : (p : ℕ) → p ≡ place_of sender (map value names) → p < length names → sender_fault (holds sender (map value names)) ≡ None
-  sender_listed p e l = ap sender_fault (sym (holds_from_place value sender names p e) ∙ lt-ltb p (length names) l)
-
-  pub sender_unlisted : (p : ℕ) → p ≡ place_of sender (map value names) → length names ≤ p → sender_fault (holds sender (map value names)) ≡ Some 21
-  sender_unlisted p e l = ap sender_fault (sym (holds_from_place value sender names p e) ∙ le-ltb p (length names) l)
-
   module _ (rounds : List RoundScenario) (term view : ℕ) where
     -- what the names mean does not matter to the script
     script_fault_map : (f : Option ℕ) → script_fault rounds term names ≡ f → script_fault rounds term (map value names) ≡ f
@@ -47,18 +37,6 @@ module _ {N : Type 0} (value : N → List ℕ) (sender : List ℕ) (names : List
     route_fault_is f o e q =
         ap (λ g. or_else g (elim (round_at rounds term view) [ None ↦ None | Some r ↦ sender_fault (holds sender (map value names)) ])) (script_fault_map f e)
         ∙ ap (λ (x : Option RoundScenario). or_else f (elim x [ None ↦ None | Some r ↦ sender_fault (holds sender (map value names)) ])) (sym q)
-
-    pub route_refused : (k : ℕ) → script_fault rounds term names ≡ Some k → route_fault rounds term view sender (map value names) ≡ Some k
-    route_refused k e = route_fault_is (Some k) (round_at rounds term view) e refl
-
-    pub route_past : script_fault rounds term names ≡ None → None ≡ round_at rounds term view → RouteTold rounds term view sender (map value names) (Ok Both)
-    route_past e q = (route_fault_is None None e q, ap (λ o. scripted_target o (place_of sender (map value names))) q)
-
-    pub route_scripted : (r : RoundScenario) (t : Result SplitTarget Refusal) → script_fault rounds term names ≡ None → Some r ≡ round_at rounds term view
-        → UnlessFault (sender_fault (holds sender (map value names))) (λ x. x ≡ scripted_target (Some r) (place_of sender (map value names))) t
-        → RouteTold rounds term view sender (map value names) t
-    route_scripted r (Ok t) e q u = (route_fault_is None (Some r) e q ∙ u.0, u.1 ∙ ap (λ o. scripted_target o (place_of sender (map value names))) q)
-    route_scripted r (Err x) e q u = route_fault_is None (Some r) e q ∙ u
 
     primary_agrees : (o : Option RoundScenario) → Distinct (map value names) → holds sender (map value names) ≡ true
         → reaches_primary (scripted_target o (place_of sender (map value names))) ≡ holds sender (map value (primary_group o names))

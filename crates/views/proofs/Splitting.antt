@@ -1,14 +1,12 @@
 -- The split of the names at a view, and the route by it. Assumes nothing.
-use Rattle.std.proofs.Common.{◌≡◌, ℕ, ◌-◌, ◌%◌, Bool, true, false, cond, ◌||◌, eqb, ltb, List, map, length, take, drop, Some, None, Ok, Err, Option, Result, sym, refl, ap, ◌∙◌, subst, arith}
+use Rattle.std.proofs.Common.{◌≡◌, ℕ, ◌-◌, ◌%◌, Bool, true, false, cond, ◌||◌, eqb, ltb, List, map, length, take, drop, Some, None, Ok, Err, Option, Result, sym, refl, ap, ◌∙◌, arith}
 use Rattle.std.proofs.lemmas.List.{length-map, take-map, drop-map, take_rest, take-append-drop}
 use Rattle.refusals.specs.declared.Refusal.{Refusal}
-use Rattle.refusals.specs.Refusals.{number_of}
 use Rattle.terms.specs.Terms.{term_start}
 use Rattle.views.specs.declared.target.SplitTarget.{SplitTarget}
-use Rattle.views.specs.Groups.{memory_fault, or_else}
-use Rattle.views.specs.Memories.{BothWritten}
+use Rattle.views.specs.Groups.{or_else}
 use Rattle.views.specs.Routes.{target_of, reaches_primary, reaches_secondary, holds, sender_fault}
-use Rattle.views.specs.Splits.{cut_at, before_cut, behind_cut, split_fault, split_groups_fault, SplitTold, split_route_fault, SplitRouteTold, SplitAgrees}
+use Rattle.views.specs.Splits.{cut_at, before_cut, behind_cut, split_fault, split_route_fault, SplitRouteTold, SplitAgrees}
 use Rattle.views.proofs.Holding.{holds_append}
 use Rattle.views.proofs.Routing.{first_none, reaches_primary_of, reaches_secondary_of}
 
@@ -19,20 +17,6 @@ module _ {N : Type 0} (term view : ℕ) (names : List N) (cut : ℕ) (at : cut �
 
   rest_is : take (length names - cut) (drop cut names) ≡ behind_cut term view names
   rest_is = take_rest names cut ∙ ap (λ k. drop k names) at
-
-  pub split_told : (r : Result (ℕ × ℕ) Refusal) (xs ys xs' ys' : List N) → split_fault term names ≡ None
-      → BothWritten (take cut names) (take (length names - cut) (drop cut names)) xs ys r xs' ys' → SplitTold term view names xs ys r xs' ys'
-  split_told r xs ys xs' ys' none w =
-      let P : List N → Type 0 = λ l. BothWritten l (take (length names - cut) (drop cut names)) xs ys r xs' ys' in
-      let Q : List N → Type 0 = λ l. BothWritten (before_cut term view names) l xs ys r xs' ys' in
-      told r (subst Q rest_is (subst P front_is w))
-    where
-      fault_is : (f : Option ℕ) → memory_fault (before_cut term view names) (behind_cut term view names) (length xs) (length ys) ≡ f → split_groups_fault term view names (length xs) (length ys) ≡ f
-      fault_is f e = ap (λ g. or_else g (memory_fault (before_cut term view names) (behind_cut term view names) (length xs) (length ys))) none ∙ e
-
-      told : (t : Result (ℕ × ℕ) Refusal) → BothWritten (before_cut term view names) (behind_cut term view names) xs ys t xs' ys' → SplitTold term view names xs ys t xs' ys'
-      told (Ok sizes) h = (fault_is None h.0, h.1)
-      told (Err e) h = (fault_is (Some (number_of e)) h.0, h.1, h.2)
 
 module _ {N : Type 0} (value : N → List ℕ) (term view : ℕ) (sender : List ℕ) (names : List N) where
   cut_at_map : cut_at term view (map value names) ≡ cut_at term view names
@@ -46,10 +30,6 @@ module _ {N : Type 0} (value : N → List ℕ) (term view : ℕ) (sender : List 
 
   split_fault_map : (f : Option ℕ) → split_fault term names ≡ f → split_fault term (map value names) ≡ f
   split_fault_map f e = ap (λ n. cond (eqb term 0) (Some 18) (cond (ltb 64 n) (Some 19) (cond (eqb n 0) (Some 20) None))) (length-map names value) ∙ e
-
-  pub split_refused : (k : ℕ) → split_fault term names ≡ Some k → split_route_fault term view sender (map value names) ≡ Some k
-  split_refused k e =
-      ap (λ g. or_else g (sender_fault (holds sender (before_cut term view (map value names)) || holds sender (behind_cut term view (map value names))))) (split_fault_map (Some k) e)
 
   -- by whether each of the two slices holds the sender
   module _ (cut : ℕ) (at : cut ≡ cut_at term view names) (none : split_fault term names ≡ None) (a b : Bool) (p : a ≡ holds sender (map value (take cut names)))

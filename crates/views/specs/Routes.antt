@@ -42,6 +42,10 @@ place_of value names = prefix_len (λ x. not (same_value x value)) names
 abbrev pub holds : List ℕ → List (List ℕ) → Bool
 holds value names = nat_lt (place_of value names) (length names)
 
+-- the place of the first name with this value, if there is one
+abbrev pub first_place : List ℕ → List (List ℕ) → Option ℕ
+first_place value names = cond (holds value names) (Some (place_of value names)) None
+
 abbrev pub sender_fault : Bool → Option ℕ
 sender_fault listed = cond listed None (Some 21)
 

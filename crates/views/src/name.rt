@@ -1,12 +1,7 @@
-// Names of participants. A name means a value, and two names are the same exactly if their values are.
-ghost use Rattle.std.specs.Prelude.{◌≡◌, ℕ, List, [], ◌∷◌, Decides};
+// Names of participants. A name means a value, a list of numbers, and two names are the same exactly if their values are.
+ghost use Rattle.std.specs.Prelude.{[], ◌∷◌};
 
-pub trait Name: Copy {
-    ghost value: { Self → List ℕ };
-
-    fn same(&self, other: &Self) -> bool
-        ensures { Decides result (value self.now ≡ value other.now) };
-}
+pub use table::Key as Name;
 
 // A public key of 32 bytes.
 #[derive(Clone, Copy)]
@@ -21,7 +16,7 @@ pub struct Seat {
 }
 
 impl Name for Seat {
-    ghost value = { λ s. s.number ∷ [] };
+    ghost meaning = { λ s. s.number ∷ [] };
 
     fn same(&self, other: &Seat) -> bool {
         self.number == other.number
@@ -29,7 +24,7 @@ impl Name for Seat {
 }
 
 impl Name for PublicKey {
-    ghost value = { λ k. k.bytes };
+    ghost meaning = { λ k. k.bytes };
 
     fn same(&self, other: &PublicKey) -> bool {
         self.bytes == other.bytes

@@ -1,36 +1,16 @@
 // Writing the names that the masks of a round pick.
-ghost use Rattle.std.specs.Prelude.{◌≡◌, ◌+◌, ◌<◌, ◌≤◌, true, length, if◌then◌else◌, slice_set};
+ghost use Rattle.std.specs.Prelude.{◌≡◌, ◌≤◌, length};
 ghost use Rattle.views.specs.Groups as groups;
 ghost use Rattle.views.specs.Memories as memories;
 
 use refusals::Refusal;
 use scenarios::{RoundScenario, mask_contains};
 
-// Writes the name at the place `next` if it is chosen, and answers the next place then.
-fn put_if<N: Copy>(chosen: bool, memory: &mut [N], next: usize, name: N) -> usize
-    requires { chosen ≡ true → next < length memory.old }
-    ensures place { result ≡ next + (if chosen then 1 else 0) }
-    ensures written { memory.new ≡ (if chosen then slice_set memory.old next name else memory.old) }
-{
-    if chosen {
-        memory[next] = name;
-        next + 1
-    } else {
-        next
-    }
-}
-
 // How many of the names a mask picks.
 fn group_len<N>(mask: u64, names: &[N]) -> usize
     ensures { result ≡ length (groups.picked mask 0 names.now) }
 {
-    let mut size: usize = 0;
-    for i in 0..names.len() {
-        if mask_contains(mask, i) {
-            size += 1;
-        }
-    }
-    size
+    (0..names.len()).filter(|&i| mask_contains(mask, i)).count()
 }
 
 // Writes each name into the group or groups that hear it, and answers the sizes of the groups.
@@ -46,10 +26,16 @@ fn fill<N: Copy>(
 {
     let mut p: usize = 0;
     let mut s: usize = 0;
+    // By index, since both masks are asked about each place.
     for i in 0..names.len() {
-        let name = names[i];
-        p = put_if(mask_contains(round.primary, i), primary, p, name);
-        s = put_if(mask_contains(round.secondary, i), secondary, s, name);
+        if mask_contains(round.primary, i) {
+            primary[p] = names[i];
+            p += 1;
+        }
+        if mask_contains(round.secondary, i) {
+            secondary[s] = names[i];
+            s += 1;
+        }
     }
     (p, s)
 }

@@ -13,12 +13,9 @@ use scenarios::{RoundScenario, mask_contains};
 
 // Which halves hear a sender in a round, by the sender's place in the list.
 fn route_in<N: Name>(round: RoundScenario, sender: &N, names: &[N]) -> Result<SplitTarget, Refusal>
-    ensures { memories.UnlessFault (routes.sender_fault (routes.holds (N.value sender.now) (map N.value names.now))) (λ t. t ≡ routes.scripted_target (Some round) (routes.place_of (N.value sender.now) (map N.value names.now))) result }
+    ensures { memories.UnlessFault (routes.sender_fault (routes.holds (N.meaning sender.now) (map N.meaning names.now))) (λ t. t ≡ routes.scripted_target (Some round) (routes.place_of (N.meaning sender.now) (map N.meaning names.now))) result }
 {
-    let place = place_of(sender, names);
-    if place >= names.len() {
-        return Err(Refusal::UnknownSender);
-    }
+    let place = place_of(sender, names).ok_or(Refusal::UnknownSender)?;
     let primary = mask_contains(round.primary, place);
     let secondary = mask_contains(round.secondary, place);
     Ok(SplitTarget::of(primary, secondary))
@@ -33,8 +30,8 @@ impl Scenario<'_> {
         sender: &N,
         names: &[N],
     ) -> Result<SplitTarget, Refusal>
-        ensures told { routes.RouteTold self.now.rounds.now term view (N.value sender.now) (map N.value names.now) result }
-        ensures agrees { routes.RouteAgrees N.value self.now.rounds.now term view (N.value sender.now) names.now result }
+        ensures told { routes.RouteTold self.now.rounds.now term view (N.meaning sender.now) (map N.meaning names.now) result }
+        ensures agrees { routes.RouteAgrees N.meaning self.now.rounds.now term view (N.meaning sender.now) names.now result }
     {
         let term = script_term(self.rounds, term, names)?;
         match round_at(self.rounds, &term, view) {

@@ -33,10 +33,5 @@ pub(crate) fn round_at(
 ) -> Option<RoundScenario>
     ensures { result ≡ groups.round_at rounds.now term.now.length view }
 {
-    let place = term.script_place(view);
-    if place < rounds.len() as u64 {
-        Some(rounds[place as usize])
-    } else {
-        None
-    }
+    rounds.get(term.script_place(view) as usize).copied()
 }

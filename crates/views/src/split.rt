@@ -18,10 +18,10 @@ fn cut_of<N>(view: u64, term: u32, names: &[N]) -> Result<usize, Refusal>
     if names.len() > 64 {
         return Err(Refusal::ManyNames);
     }
-    if names.len() == 0 {
+    if names.is_empty() {
         return Err(Refusal::NoNames);
     }
-    Ok((term.start(view) % names.len() as u64) as usize)
+    Ok(term.start(view) as usize % names.len())
 }
 
 // Writes the names before the cut of this view into the first memory, the others into the second, and answers how many.
@@ -45,8 +45,8 @@ pub fn view_route<N: Name>(
     sender: &N,
     names: &[N],
 ) -> Result<SplitTarget, Refusal>
-    ensures told { splits.SplitRouteTold term view (N.value sender.now) (map N.value names.now) result }
-    ensures agrees { splits.SplitAgrees N.value term view (N.value sender.now) names.now result }
+    ensures told { splits.SplitRouteTold term view (N.meaning sender.now) (map N.meaning names.now) result }
+    ensures agrees { splits.SplitAgrees N.meaning term view (N.meaning sender.now) names.now result }
 {
     let cut = cut_of(view, term, names)?;
     let first = is_listed(sender, &names[..cut]);

@@ -1,16 +1,15 @@
-use Rattle.views.proofs.Holding.{place_here, place_later, place_nowhere}
+use Rattle.std.proofs.Common.{◌≡◌, ◌∙◌, rules}
+use Rattle.std.specs.List.{position}
+use Rattle.std.proofs.lemmas.Iterator.{YieldsList-from_slice}
+use Rattle.std.proofs.lemmas.Iterator.Search.{position_from_yields_List}
+use Rattle.views.specs.Routes.{same_value}
+use Rattle.views.proofs.Holding.{same_value_is, first_place_is}
 use Rattle.views.proofs.find.place_of.Goals as goal
-
-pub loop-i-preserved : goal.loop-i-preserved
-loop-i-preserved g c =
-    place_later g.N.Name.value (g.N.Name.value c.args.sender.now) c.args.names.now c.loop-i.i c.index-names-i.result c.same.result
-    c.loop-i-test.true c.index-names-i.is c.same.ensures c.if-same.false c.loop-i.invariant
-
-pub returns-then-same : goal.returns-then-same
-returns-then-same g c =
-    place_here g.N.Name.value (g.N.Name.value c.args.sender.now) c.args.names.now c.loop-i.i c.index-names-i.result c.same.result
-    c.loop-i-test.true c.index-names-i.is c.same.ensures c.if-same.true c.loop-i.invariant
 
 pub returns : goal.returns
 returns g c =
-    place_nowhere g.N.Name.value (g.N.Name.value c.args.sender.now) c.args.names.now c.loop-i.i c.loop-i.auto.i-end c.loop-i-test.false c.loop-i.invariant
+    let value = g.N.Key.meaning in
+    let v = value c.args.sender.now in
+    let first : c.position.result ≡ position (λ x. same_value (value x) v) c.args.names.now =
+    position_from_yields_List (λ x. same_value (value x) v) _ _ c.position.result c.position.ensures.ran (YieldsList-from_slice _ c.iter.ensures.rest) (λ x b q k. (search (rules, k), same_value_is b (value x.now) v (search (rules, k)))) in
+    first ∙ first_place_is value v c.args.names.now

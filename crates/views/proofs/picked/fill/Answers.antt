@@ -1,29 +1,46 @@
-use Rattle.std.proofs.Common.{◌++◌, length, drop, ap, ◌∙◌, arith}
+use Rattle.std.proofs.Common.{◌<◌, ◌++◌, length, drop, sym, ap, ◌∙◌, arith, rules}
 use Rattle.std.proofs.lemmas.List.{take_all}
 use Rattle.views.specs.Groups.{picked}
-use Rattle.views.proofs.Picking.{length_picked_below, put_picked}
+use Rattle.views.proofs.Picking.{room, picked_here, passed_here}
 use Rattle.views.proofs.picked.fill.Goals as goal
+use Rattle.views.proofs.picked.fill.Goals.{then-mask_contains, else-mask_contains, then-mask_contains-2, else-mask_contains-2}
 
-pub put_if-p-requires : goal.put_if-p-requires
-put_if-p-requires g c e =
-    let below = length_picked_below c.args.round.primary c.args.names.now c.loop-i.i c.mask_contains.result c.loop-i-test.true c.mask_contains.ensures e in
-    let at = c.loop-i.invariant.0.place in
-    omega arith
+pub bounds-primary-p : goal.bounds-primary-p
+bounds-primary-p g c =
+    room c.args.round.primary _ _ _ _ _ c.loop-i-test.true c.loop-i.invariant.0 (sym c.mask_contains.ensures ∙ c.if-mask_contains.true) c.requires.first (omega arith)
 
-pub put_if-s-requires : goal.put_if-s-requires
-put_if-s-requires g c e =
-    let below = length_picked_below c.args.round.secondary c.args.names.now c.loop-i.i c.mask_contains-in-loop-i.result c.loop-i-test.true c.mask_contains-in-loop-i.ensures e in
-    let at = c.loop-i.invariant.1.place in
-    omega arith
+pub overflow_add-p : goal.overflow_add-p
+overflow_add-p g c =
+    let below : c.loop-i.p < length c.loop-i.primary =
+    room c.args.round.primary _ _ _ _ _ c.loop-i-test.true c.loop-i.invariant.0 (sym c.mask_contains.ensures ∙ c.if-mask_contains.true) c.requires.first (omega arith) in
+    search rules
+
+pub bounds-secondary-s : goal.bounds-secondary-s
+bounds-secondary-s g c =
+    room c.args.round.secondary _ _ _ _ _ c.loop-i-test.true c.loop-i.invariant.1 (sym c.mask_contains-in-loop-i.ensures ∙ c.if-mask_contains-2.true) c.requires.second (omega arith)
+
+pub overflow_add-s : goal.overflow_add-s
+overflow_add-s g c =
+    let below : c.loop-i.s < length c.loop-i.secondary =
+    room c.args.round.secondary _ _ _ _ _ c.loop-i-test.true c.loop-i.invariant.1 (sym c.mask_contains-in-loop-i.ensures ∙ c.if-mask_contains-2.true) c.requires.second (omega arith) in
+    search rules
 
 pub loop-i-preserved : goal.loop-i-preserved
 loop-i-preserved g c = (
-  put_picked c.args.round.primary c.args.names.now c.args.primary.now c.loop-i.primary c.put_if-p.new.memory c.loop-i.i c.loop-i.p c.put_if-p.result
-      c.index-names-i.result c.mask_contains.result c.loop-i-test.true c.index-names-i.is c.mask_contains.ensures c.requires.first c.loop-i.invariant.0
-      c.put_if-p.ensures.place c.put_if-p.ensures.written,
-  put_picked c.args.round.secondary c.args.names.now c.args.secondary.now c.loop-i.secondary c.put_if-s.new.memory c.loop-i.i c.loop-i.s c.put_if-s.result
-      c.index-names-i.result c.mask_contains-in-loop-i.result c.loop-i-test.true c.index-names-i.is c.mask_contains-in-loop-i.ensures c.requires.second c.loop-i.invariant.1
-      c.put_if-s.ensures.place c.put_if-s.ensures.written,
+  elim c.if-mask_contains.branch [
+    | then-mask_contains w ↦
+        picked_here c.args.round.primary _ _ _ _ _ c.loop-i-test.true c.loop-i.invariant.0 w.index-names-i.result _ _ (sym c.mask_contains.ensures ∙ w.if-mask_contains.true)
+        w.index-names-i.is c.requires.first w.p-is w.primary-is
+    | else-mask_contains w ↦
+        passed_here c.args.round.primary _ _ _ _ _ c.loop-i-test.true c.loop-i.invariant.0 _ _ (sym c.mask_contains.ensures ∙ w.if-mask_contains.false) w.p-is w.primary-is
+  ],
+  elim c.if-mask_contains-2.branch [
+    | then-mask_contains-2 w ↦
+        picked_here c.args.round.secondary _ _ _ _ _ c.loop-i-test.true c.loop-i.invariant.1 w.index-names-i-then-mask_contains-2.result _ _ (sym c.mask_contains-in-loop-i.ensures ∙ w.if-mask_contains-2.true)
+        w.index-names-i-then-mask_contains-2.is c.requires.second w.s-is w.secondary-is
+    | else-mask_contains-2 w ↦
+        passed_here c.args.round.secondary _ _ _ _ _ c.loop-i-test.true c.loop-i.invariant.1 _ _ (sym c.mask_contains-in-loop-i.ensures ∙ w.if-mask_contains-2.false) w.s-is w.secondary-is
+  ],
 )
 
 pub returns : goal.returns
