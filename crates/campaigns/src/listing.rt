@@ -2,7 +2,6 @@
 ghost use Rattle.std.specs.Prelude.{◌≡◌, ℕ, ◌<◌, ◌≤◌, List, ◌++◌, length, Some};
 ghost use Rattle.std.specs.List.{AllByRecursion};
 ghost use Rattle.std.specs.Iterator.{IsFinite, AlwaysYields};
-ghost use Rattle.scenarios.specs.PlanCounts.{Counted};
 ghost use Rattle.campaigns.specs.Tickets as listed;
 ghost use Rattle.campaigns.specs.Listings as listings;
 
@@ -29,9 +28,9 @@ fn put_tickets(rank: u64, count: u64, tickets: &mut [Ticket], len: usize) -> Opt
     Some(end)
 }
 
-// How many compromised sets the scenario of a rank has; none only if the rank is too great, or the plan was not counted.
+// How many compromised sets the scenario of a rank has; none only if the rank is too great.
 fn sets_of(counted: &CountedPlan<'_>, rank: u64) -> Option<u64>
-    ensures { Counted counted.now.plan counted.now.total counted.now.memory.now → rank < counted.now.total → result ≡ Some (listed.set_count counted.now.plan rank) }
+    ensures { rank < counted.now.total → result ≡ Some (listed.set_count counted.now.plan rank) }
 {
     let round = RoundScenario {
         leader: 0,
@@ -53,7 +52,7 @@ fn note_rank(
 ) -> Option<usize>
     requires { len ≤ length tickets.old }
     ensures within { listings.Within result tickets.new }
-    ensures told { Counted counted.now.plan counted.now.total counted.now.memory.now → rank < counted.now.total → (xs front : List Ticket) → listings.Front xs front len tickets.old → listings.Listed xs (front ++ listed.tickets_for counted.now.plan rank) result tickets.new }
+    ensures told { rank < counted.now.total → (xs front : List Ticket) → listings.Front xs front len tickets.old → listings.Listed xs (front ++ listed.tickets_for counted.now.plan rank) result tickets.new }
 {
     let count = sets_of(counted, rank)?;
     put_tickets(rank, count, tickets, len)
@@ -68,7 +67,7 @@ pub(crate) fn list_ranks<I: Iterator<Item = u64> + Drop>(
     requires can { I.can_next ranks }
     requires ends { IsFinite (I.remaining ranks) }
     ensures within { listings.Within result tickets.new }
-    ensures told { Counted counted.now.plan counted.now.total counted.now.memory.now → (chosen : List ℕ) → AlwaysYields I.next_gives (λ k. k) ranks chosen → AllByRecursion (λ k. k < counted.now.total) chosen → listings.Listed tickets.old (listed.tickets_of counted.now.plan chosen) result tickets.new }
+    ensures told { (chosen : List ℕ) → AlwaysYields I.next_gives (λ k. k) ranks chosen → AllByRecursion (λ k. k < counted.now.total) chosen → listings.Listed tickets.old (listed.tickets_of counted.now.plan chosen) result tickets.new }
 {
     let mut len = 0;
     for rank in ranks {

@@ -1,7 +1,6 @@
 // Opening a campaign: ranks are chosen, each of their sets gets a ticket, and the tickets are shuffled and cut.
 ghost use Rattle.std.specs.Prelude.{◌≡◌, Ok, Err};
 ghost use Rattle.refusals.specs.Refusals.{number_of};
-ghost use Rattle.scenarios.specs.PlanCounts.{Counted};
 ghost use Rattle.campaigns.specs.Openings as openings;
 ghost use Rattle.campaigns.specs.Listings as listings;
 
@@ -62,7 +61,7 @@ fn list_chosen<S: Source>(
     tickets: &mut [Ticket],
 ) -> Result<usize, Refusal>
     ensures within { listings.ToldWithin result tickets.new }
-    ensures told { Counted counted.now.plan counted.now.total counted.now.memory.now → listings.ChoiceTold counted.now.plan (S.coming source.old) ranks.old tickets.old result (S.coming source.new) ranks.new tickets.new }
+    ensures told { listings.ChoiceTold counted.now.plan (S.coming source.old) ranks.old tickets.old result (S.coming source.new) ranks.new tickets.new }
 {
     let total = counted.total();
     let cap = counted.numbers().cap;
@@ -93,7 +92,7 @@ fn open_in<S: Source>(
     ranks: &mut [RankSlot],
     tickets: &mut [Ticket],
 ) -> Result<usize, Refusal>
-    ensures { Counted counted.now.plan counted.now.total counted.now.memory.now → elim result [
+    ensures { elim result [
       | Ok cases ↦ openings.OpenedAs counted.now.plan (S.coming source.old) ranks.old tickets.old cases (S.coming source.new) ranks.new tickets.new
       | Err e ↦ openings.OpeningRefused counted.now.plan (S.coming source.old) ranks.old tickets.old (number_of e) (S.coming source.new) ranks.new tickets.new
     ] }
@@ -116,7 +115,7 @@ pub fn open_campaign<'a, S: Source>(
     tickets: &'a mut [Ticket],
 ) -> Result<Opened<'a>, OpenRefused<'a>>
     ensures plan { elim result [ Ok v ↦ v.counted ≡ counted.entry | Err e ↦ e.counted ≡ counted.entry ] }
-    ensures told { Counted counted.entry.plan counted.entry.total counted.entry.memory.now → elim result [
+    ensures told { elim result [
       | Ok v ↦ openings.OpenedAs counted.entry.plan (S.coming source.old) ranks.old tickets.old v.cases (S.coming source.new) ranks.new v.tickets.now
       | Err e ↦ openings.OpeningRefused counted.entry.plan (S.coming source.old) ranks.old tickets.old (number_of e.refusal) (S.coming source.new) ranks.new e.tickets.now
     ] }
