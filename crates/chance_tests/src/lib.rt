@@ -9,31 +9,20 @@ mod tests {
     use sampling::{RankSlot, sample_unique_indices, shuffle_items};
     use scenarios::CellState;
     use sets::{count_sets, write_set};
-    use std::process::Abort;
     use table::Entry;
     use words::{Source, SplitMix64, Tape};
 
-    // The number of the refusal, 0 where there is none.
-    fn refused<T: Drop>(answer: Result<T, Refusal>) -> u8 {
-        match answer {
-            Ok(_) => 0,
-            Err(refusal) => refusal.number(),
-        }
+    // The number of the refusal, where there is one.
+    fn refused<T: Drop>(answer: Result<T, Refusal>) -> Option<u8> {
+        answer.err().map(|refusal| refusal.number())
     }
 
     fn slots(keys: [u64; 6]) -> [RankSlot; 6] {
-        let mut slots = [Entry { key: 0, value: () }; 6];
-        for i in 0..6 {
-            slots[i].key = keys[i];
-        }
-        slots
+        keys.map(|key| Entry { key, value: () })
     }
 
-    fn check_keys(rt: &impl Abort, slots: &[RankSlot], keys: &[u64]) {
-        assert_eq!(rt; slots.len(), keys.len());
-        for (slot, key) in slots.iter().zip(keys) {
-            assert_eq!(rt; slot.key, *key);
-        }
+    fn keys(slots: [RankSlot; 6]) -> [u64; 6] {
+        slots.map(|slot| slot.key)
     }
 
     // As published.
@@ -75,7 +64,7 @@ mod tests {
         let mut ranks = slots([7; 6]);
         let answer = sample_unique_indices(&mut Tape::new(&words), 12, 5, &mut ranks);
         assert_eq!(rt; answer.ok(), Some(5));
-        check_keys(&rt, &ranks, &[3, 8, 9, 10, 2, 7]);
+        assert_eq!(rt; keys(ranks), [3, 8, 9, 10, 2, 7]);
     }
 
     #[test]
@@ -84,8 +73,8 @@ mod tests {
         let mut tape = Tape::new(&words);
         let mut ranks = slots([1, 2, 3, 4, 5, 6]);
         let answer = sample_unique_indices(&mut tape, 12, 7, &mut ranks);
-        assert_eq!(rt; refused(answer), 10);
-        check_keys(&rt, &ranks, &[1, 2, 3, 4, 5, 6]);
+        assert_eq!(rt; refused(answer), Some(10));
+        assert_eq!(rt; keys(ranks), [1, 2, 3, 4, 5, 6]);
         // no word was taken
         assert_eq!(rt; tape.take().ok(), Some(3));
     }
@@ -95,12 +84,12 @@ mod tests {
         let words = [3, 3, 9, 10];
         let mut ranks = slots([7; 6]);
         let answer = sample_unique_indices(&mut Tape::new(&words), 12, 5, &mut ranks);
-        assert_eq!(rt; refused(answer), 11);
-        check_keys(&rt, &ranks, &[0; 6]);
+        assert_eq!(rt; refused(answer), Some(11));
+        assert_eq!(rt; keys(ranks), [0; 6]);
         let mut items = [0u8, 1, 2, 3, 4, 5];
         assert_eq!(rt;
             refused(shuffle_items(&mut items, &mut Tape::new(&words))),
-            11
+            Some(11)
         );
     }
 
@@ -119,15 +108,6 @@ mod tests {
         }
     }
 
-    // The numbers from `first` on.
-    fn check_upwards(rt: &impl Abort, members: &[usize], first: usize) {
-        let mut next = first;
-        for member in members {
-            assert_eq!(rt; *member, next);
-            next = next.wrapping_add(1);
-        }
-    }
-
     #[test]
     fn sets_are_counted(rt: HostRuntime) {
         assert_eq!(rt;
@@ -139,19 +119,22 @@ mod tests {
     #[test]
     fn sets_are_numbered(rt: HostRuntime) {
         let mut members = [0usize; 32];
-        assert_eq!(rt; refused(write_set(64, 32, singles(), 0, &mut members)), 0);
-        check_upwards(&rt, &members, 32);
+        assert_eq!(rt;
+            refused(write_set(64, 32, singles(), 0, &mut members)),
+            None
+        );
+        assert!(rt; members.iter().copied().eq(32..64));
         let last = 1832624140942590533;
         assert_eq!(rt;
             refused(write_set(64, 32, singles(), last, &mut members)),
-            0
+            None
         );
-        check_upwards(&rt, &members, 0);
+        assert!(rt; members.iter().copied().eq(0..32));
         assert_eq!(rt;
             refused(write_set(64, 32, singles(), last + 1, &mut members)),
-            16
+            Some(16)
         );
         // nothing was written
-        check_upwards(&rt, &members, 0);
+        assert!(rt; members.iter().copied().eq(0..32));
     }
 }

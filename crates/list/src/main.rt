@@ -5,12 +5,12 @@
 
 #![tactic(auto)]
 
-ghost use Rattle.std.specs.Prelude.{◌≡◌, ◌≤◌, length, replicate, IfOk, Ok, Err};
+ghost use Rattle.std.specs.Prelude.{Ok, Err};
 ghost use Rattle.list.specs.Asked.{Planned, Unplanned};
 
 use refusals::Refusal;
 use scenarios::{CellState, CountedPlan, Place, Plan, RoundScenario, Slot};
-use std::alloc::{AllocError, Global};
+use std::alloc::Global;
 use std::io;
 use std::io::{BufWriter, Read, Write};
 use table::Entry;
@@ -20,28 +20,11 @@ mod show;
 
 use show::{Header, Line, Refused};
 
+// How many bytes of standard input are looked at.
+const TEXT: u64 = 64;
+
 // How many states the count memory holds.
 const SLOTS: usize = 2000;
-
-// Fills the buffer from standard input, as far as there is input, and answers how many bytes came.
-// One read may bring less than there is, so it reads till nothing comes.
-fn read_some(rt: &HostRuntime, buf: &mut [u8]) -> io::Result<usize>
-    ensures { elim result [ Ok n ↦ n ≤ length buf.old | Err e ↦ Unit {0} ] }
-{
-    let mut stdin = rt.stdin();
-    let mut have: usize = 0;
-    for _ in 0..buf.len() {
-        if have >= buf.len() {
-            break;
-        }
-        let n = stdin.read(&mut buf[have..])?;
-        if n == 0 {
-            break;
-        }
-        have += n;
-    }
-    Ok(have)
-}
 
 // The plan that a text writes, unless the text is no plan line or its numbers break a rule.
 fn plan_in(text: &[u8]) -> Result<Plan, Refusal>
@@ -53,19 +36,8 @@ fn plan_in(text: &[u8]) -> Result<Plan, Refusal>
         line.faults as usize,
         line.rounds as usize,
         line.mode,
-        line.cap as u64,
+        u64::from(line.cap),
     )
-}
-
-// The same item, n times, on the heap: the count memory is too large for the stack.
-fn repeated<T: Copy>(heap: Global, item: T, n: usize) -> Result<Vec<T>, AllocError>
-    ensures { IfOk result (λ v. v.items ≡ replicate n item) }
-{
-    let mut items = Vec::with_capacity(heap, n)?;
-    for i in 0..n {
-        items.push(item)?;
-    }
-    Ok(items)
 }
 
 // Prints a line for each rank below `listed`. The rounds are written over for each.
@@ -76,14 +48,12 @@ fn print_scenarios<W: Write>(
     rounds: &mut [RoundScenario],
 ) -> io::Result<()> {
     for rank in 0..listed {
-        match counted.scenario(rank, rounds) {
-            Ok(_) => {
-                let line = Line { rank, rounds };
-                writeln!(out, "{line}")?;
-            }
-            // a counted plan has a scenario for each rank below its total; a listing with a gap would hide it if one lacked
-            Err(refusal) => return print_refusal(out, refusal),
+        // a counted plan has a scenario for each rank below its total; a listing with a gap would hide it if one lacked
+        if let Err(refusal) = counted.scenario(rank, rounds) {
+            return print_refusal(out, refusal);
         }
+        let line = Line { rank, rounds };
+        writeln!(out, "{line}")?;
     }
     Ok(())
 }
@@ -100,16 +70,14 @@ fn print_listing<W: Write>(out: &mut W, heap: Global, plan: Plan) -> io::Result<
         },
         value: 0,
     };
-    let mut memory: Vec<Slot> = repeated(heap, slot, SLOTS)?;
-    let mut script = repeated(
-        heap,
-        RoundScenario {
-            leader: 0,
-            primary: 0,
-            secondary: 0,
-        },
-        rounds,
-    )?;
+    let round = RoundScenario {
+        leader: 0,
+        primary: 0,
+        secondary: 0,
+    };
+    // on the heap: the count memory is too large for the stack
+    let mut memory: Vec<Slot> = vec![in heap; slot; SLOTS]?;
+    let mut script = vec![in heap; round; rounds]?;
     match plan.count(memory.as_mut_slice()) {
         Ok(counted) => {
             let total = counted.total();
@@ -140,10 +108,10 @@ fn answer<W: Write>(out: &mut W, heap: Global, text: &[u8]) -> io::Result<()> {
 }
 
 fn main(rt: HostRuntime) -> io::Result<()> {
-    let mut buf = [0u8; 64];
-    let n = read_some(&rt, &mut buf)?;
+    let mut text = Vec::new(rt.alloc());
+    rt.stdin().take(TEXT).read_to_end(&mut text)?;
     let mut out = BufWriter::new(rt.alloc(), rt.stdout())?;
-    answer(&mut out, rt.alloc(), &buf[0..n])?;
+    answer(&mut out, rt.alloc(), text.as_slice())?;
     out.flush()
 }
 

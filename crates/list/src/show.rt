@@ -31,25 +31,6 @@ impl fmt::Display for Header {
     }
 }
 
-// A round, with the space that parts it from what stands before.
-#[derive(Clone, Copy)]
-pub(crate) struct Item {
-    pub(crate) round: RoundScenario,
-}
-
-impl fmt::Display for Item {
-    ghost output = { λ x. Some (shown_as.item x.round) };
-
-    fn fmt<W: fmt::Write>(&self, f: &mut fmt::Formatter<W>) -> fmt::Result {
-        let RoundScenario {
-            leader,
-            primary,
-            secondary,
-        } = self.round;
-        write!(f, " {leader}:{primary}:{secondary}")
-    }
-}
-
 // A rank and the rounds of its scenario.
 #[derive(Clone, Copy)]
 pub(crate) struct Line<'a> {
@@ -64,8 +45,12 @@ impl fmt::Display for Line<'_> {
         let rank = self.rank;
         write!(f, "{rank}")?;
         for round in self.rounds {
-            let item = Item { round: *round };
-            write!(f, "{item}")?;
+            let RoundScenario {
+                leader,
+                primary,
+                secondary,
+            } = *round;
+            write!(f, " {leader}:{primary}:{secondary}")?;
         }
         Ok(())
     }

@@ -1,13 +1,17 @@
-use Rattle.std.proofs.Common.{◌≡◌, ℕ, ◌+◌, ◌<◌, ◌≤◌, eqb, List, length, get_or, Some, None, ◌∙◌}
-use Rattle.std.proofs.lemmas.List.{at_drop_more, at_drop_all}
-use Rattle.std.proofs.lemmas.Bool.{cond-true, cond-false, eq-eqb, ne_eqb}
+use Rattle.std.proofs.Common.{◌≡◌, ℕ, ◌+◌, eqb, List, drop, [], ◌∷◌, Option, Some, Bool, true, false, cond, sym, refl, ◌∙◌, ap, arith}
+use Rattle.std.specs.List.{position, position_from}
+use Rattle.std.specs.Option.{option_map}
+use Rattle.std.proofs.lemmas.Iterator.Adapters.{position_from-zero}
 use Rattle.text.specs.Lines.{first, end_of}
 
-pub end_here : (text : List ℕ) (i end : ℕ) → i < length text → get_or text i 0 ≡ end → end_of text i end ≡ Some i
-end_here text i end h e = at_drop_more (first end i) text i 0 h ∙ cond-true (eqb (get_or text i 0) end) (Some i) (end_of text (i + 1) end) (eq-eqb _ _ e)
+moved : (t : Bool) (at k i : ℕ) (a b : Option ℕ) → i ≡ at + k → a ≡ option_map (λ n. at + n) b → cond t (Some i) a ≡ option_map (λ n. at + n) (cond t (Some k) b)
+moved true at k i a b s e = ap Some s
+moved false at k i a b s e = e
 
-pub end_later : (text : List ℕ) (i end : ℕ) → i < length text → (get_or text i 0 ≡ end → ⊥) → end_of text i end ≡ end_of text (i + 1) end
-end_later text i end h e = at_drop_more (first end i) text i 0 h ∙ cond-false (eqb (get_or text i 0) end) (Some i) (end_of text (i + 1) end) (ne_eqb _ _ e)
+first_at : (end at k i : ℕ) (bs : List ℕ) → i ≡ at + k → first end i bs ≡ option_map (λ n. at + n) (position_from (λ b. eqb b end) k bs)
+first_at end at k i [] s = refl
+first_at end at k i (b ∷ bs) s = moved (eqb b end) at k i _ _ s (first_at end at (k + 1) (i + 1) bs (omega arith))
 
-pub end_never : (text : List ℕ) (i end : ℕ) → length text ≤ i → end_of text i end ≡ None
-end_never text i end h = at_drop_all (first end i) text i h
+-- the end of a field, by its length
+pub end_is : (text : List ℕ) (at end : ℕ) (length : Option ℕ) → length ≡ position (λ b. eqb b end) (drop at text) → end_of text at end ≡ option_map (λ n. at + n) length
+end_is text at end length e = first_at end at 0 at (drop at text) (omega arith) ∙ ap (option_map (λ n. at + n)) (sym (e ∙ position_from-zero (λ b. eqb b end) (drop at text)))

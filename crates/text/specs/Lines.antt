@@ -140,6 +140,10 @@ field_at held text at end =
       | Some e ↦ elim (held (part text at e)) [ None ↦ Err (Fault at) | Some x ↦ Ok (x, e + 1) ]
     ]
 
+-- a reader answers what `held` says, at each part of the text from `at` on
+abbrev pub Reads : {X : Type 0} → (List ℕ → Option X → Type 0) → (List ℕ → Option X) → List ℕ → ℕ → Type 0
+Reads {X} answers held text at = (e : ℕ) (r : Option X) → answers (part text at e) r → r ≡ held (part text at e)
+
 abbrev pub number_at : List ℕ → ℕ → ℕ → Result (ℕ × ℕ) Refusal
 number_at text at end = field_at numeral text at end
 

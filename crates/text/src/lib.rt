@@ -6,7 +6,9 @@
 
 #![tactic(auto)]
 
-ghost use Rattle.std.specs.Prelude.{◌≡◌, ◌<◌, ◌≤◌, length, IfSome, Ok, Err};
+ghost use Rattle.std.specs.Prelude.{◌≡◌, ℕ, ◌+◌, ◌<◌, ◌==◌, length, drop, List, Option, IfSome, Ok, Err};
+ghost use Rattle.std.specs.Fn.{FnReturnsAt};
+ghost use Rattle.std.specs.List.{position};
 ghost use Rattle.text.specs.Lines as lines;
 
 use refusals::Refusal;
@@ -21,30 +23,24 @@ pub struct PlanLine {
     pub cap: u32,
 }
 
-// The place of the first byte `end`, from the place `from` on.
-fn find_end(text: &[u8], from: usize, end: u8) -> Option<usize>
-    ensures place { result ≡ lines.end_of text.now from end }
-    ensures within { IfSome result (λ e. (from ≤ e) × (e < length text.now)) }
+// How many bytes from the place `from` on stand before the first byte `end`.
+fn field_length(text: &[u8], from: usize, end: u8) -> Option<usize>
+    ensures length { result ≡ position (λ b. b == end) (drop from text.now) }
+    ensures within { IfSome result (λ n. from + n < length text.now) }
 {
-    for i in from..text.len() {
-        if text[i] == end {
-            return Some(i);
-        }
-    }
-    None
+    text.iter().skip(from).position(|b| *b == end)
 }
 
 // The number so far with the digit `b` after it, where that is a digit and the number fits.
 fn push_digit(n: u32, b: u8) -> Option<u32>
     ensures { result ≡ lines.pushed n b }
 {
-    match b {
-        b'0'..=b'9' => n.checked_mul(10)?.checked_add((b - b'0') as u32),
-        _ => None,
-    }
+    let digit = char::from(b).to_digit(10)?;
+    n.checked_mul(10)?.checked_add(digit)
 }
 
 // The number that the bytes write, where they are a numeral of at most 32 bits.
+#[tactic(auto, using(crate::proofs::Digits::counted_more, crate::proofs::Digits::counted_stop, crate::proofs::Digits::counted_all))]
 fn read_numeral(bytes: &[u8]) -> Option<u32>
     ensures { result ≡ lines.numeral bytes.now }
 {
@@ -79,33 +75,31 @@ fn mode_in(bytes: &[u8]) -> Option<Mode>
     }
 }
 
-// The number field at `from`, and the place after its end.
-fn read_number(text: &[u8], from: usize, end: u8) -> Result<(u32, usize), Refusal>
-    ensures { result ≡ lines.number_at text.now from end }
+// The field at `from` as `read` reads it, and the place after its end.
+fn read_field<T, F: Fn(&[u8]) -> Option<T>>(
+    text: &[u8],
+    from: usize,
+    end: u8,
+    read: F,
+) -> Result<(T, usize), Refusal>
+    requires { F.IsAlwaysCallable read }
+    ensures { (held : List ℕ → Option T) → lines.Reads (FnReturnsAt F.Fn read) held text.now from → result ≡ lines.field_at held text.now from end }
 {
-    let e = find_end(text, from, end).ok_or(Refusal::PlanLine(text.len()))?;
-    let n = read_numeral(&text[from..e]).ok_or(Refusal::PlanLine(from))?;
-    Ok((n, e + 1))
-}
-
-// The mode field at `from`, and the place after its end.
-fn read_mode(text: &[u8], from: usize) -> Result<(Mode, usize), Refusal>
-    ensures { result ≡ lines.mode_at text.now from }
-{
-    let e = find_end(text, from, b' ').ok_or(Refusal::PlanLine(text.len()))?;
-    let mode = mode_in(&text[from..e]).ok_or(Refusal::PlanLine(from))?;
-    Ok((mode, e + 1))
+    let length = field_length(text, from, end).ok_or(Refusal::PlanLine(text.len()))?;
+    let e = from + length;
+    let held = read(&text[from..e]).ok_or(Refusal::PlanLine(from))?;
+    Ok((held, e + 1))
 }
 
 // Reads a text that is one plan line and nothing more; a refusal has the place of the first fault.
 pub fn read_plan_line(text: &[u8]) -> Result<PlanLine, Refusal>
     ensures { elim result [ Ok line ↦ lines.Line text.now line | Err e ↦ lines.Refused text.now e ] }
 {
-    let (participants, at) = read_number(text, 0, b' ')?;
-    let (faults, at) = read_number(text, at, b' ')?;
-    let (rounds, at) = read_number(text, at, b' ')?;
-    let (mode, at) = read_mode(text, at)?;
-    let (cap, at) = read_number(text, at, b'\n')?;
+    let (participants, at) = read_field(text, 0, b' ', read_numeral)?;
+    let (faults, at) = read_field(text, at, b' ', read_numeral)?;
+    let (rounds, at) = read_field(text, at, b' ', read_numeral)?;
+    let (mode, at) = read_field(text, at, b' ', mode_in)?;
+    let (cap, at) = read_field(text, at, b'\n', read_numeral)?;
     if at < text.len() {
         return Err(Refusal::PlanLine(at));
     }

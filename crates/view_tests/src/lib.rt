@@ -2,6 +2,8 @@
 
 #![tactic(auto)]
 
+ghost use Rattle.std.specs.Prelude.{◌≤◌};
+
 #[cfg(test)]
 mod tests {
     use electors::{Dynamic, Elector, ElectorState, Lot, Rotation, Scheduled};
@@ -12,23 +14,17 @@ mod tests {
     use terms::TermLength;
     use views::{Scenario, Seat, SplitTarget, view_partitions, view_route};
 
-    // The number of the refusal, 0 where there is none.
-    fn refused<T: Drop>(answer: Result<T, Refusal>) -> u8 {
-        match answer {
-            Ok(_) => 0,
-            Err(refusal) => refusal.number(),
-        }
+    // The number of the refusal, where there is one.
+    fn refused<T: Drop>(answer: Result<T, Refusal>) -> Option<u8> {
+        answer.err().map(|refusal| refusal.number())
     }
 
     fn seat(number: u16) -> Seat {
         Seat { number }
     }
 
-    fn check_seats(rt: &impl Abort, seats: &[Seat], numbers: &[u16]) {
-        assert_eq!(rt; seats.len(), numbers.len());
-        for (seat, number) in seats.iter().zip(numbers) {
-            assert_eq!(rt; seat.number, *number);
-        }
+    fn numbers(seats: [Seat; 4]) -> [u16; 4] {
+        seats.map(|seat| seat.number)
     }
 
     // A round in which the primary half hears the second and third name, the secondary half the first and third.
@@ -42,22 +38,15 @@ mod tests {
 
     #[test]
     fn views_have_places(rt: HostRuntime) -> Result<(), Fail> {
-        match TermLength::new(5) {
-            Ok(term) => {
-                for view in 0..6 {
-                    assert_eq!(rt; term.script_place(view), 0);
-                }
-                assert_eq!(rt; term.script_place(6), 1);
-                assert_eq!(rt; term.index(0), 0);
-                assert_eq!(rt; term.index(6), 2);
-                assert_eq!(rt; term.start(10), 6);
-                Ok(())
-            }
-            Err(_) => {
-                assert!(rt; false);
-                Ok(())
-            },
+        let term = TermLength::new(5)?;
+        for view in 0..6 {
+            assert_eq!(rt; term.script_place(view), 0);
         }
+        assert_eq!(rt; term.script_place(6), 1);
+        assert_eq!(rt; term.index(0), 0);
+        assert_eq!(rt; term.index(6), 2);
+        assert_eq!(rt; term.start(10), 6);
+        Ok(())
     }
 
     #[test]
@@ -69,13 +58,13 @@ mod tests {
         let mut secondary = [seat(8); 4];
         let answer = script.partitions(1, 5, &names, &mut primary, &mut secondary);
         assert_eq!(rt; answer.ok(), Some((2, 2)));
-        check_seats(&rt, &primary, &[11, 12, 7, 7]);
-        check_seats(&rt, &secondary, &[10, 12, 8, 8]);
+        assert_eq!(rt; numbers(primary), [11, 12, 7, 7]);
+        assert_eq!(rt; numbers(secondary), [10, 12, 8, 8]);
         // past the script each half hears all
         let answer = script.partitions(6, 5, &names, &mut primary, &mut secondary);
         assert_eq!(rt; answer.ok(), Some((3, 3)));
-        check_seats(&rt, &primary, &[10, 11, 12, 7]);
-        check_seats(&rt, &secondary, &[10, 11, 12, 8]);
+        assert_eq!(rt; numbers(primary), [10, 11, 12, 7]);
+        assert_eq!(rt; numbers(secondary), [10, 11, 12, 8]);
     }
 
     #[test]
@@ -96,59 +85,65 @@ mod tests {
 
     // The number of the refusal of groups by so many rounds and names in two memories, which have to stay as they are.
     fn partitions_refused(
+        rt: &impl Abort,
         rounds: usize,
         term: u32,
         names: usize,
         first: usize,
         second: usize,
-    ) -> Option<u8> {
+    ) -> Option<u8>
+        requires { (rounds ≤ 65) × (names ≤ 65) × (first ≤ 65) × (second ≤ 65) }
+    {
         let script = [round(); 65];
         let list = [seat(1); 65];
         let mut primary = [seat(7); 65];
         let mut secondary = [seat(7); 65];
-        let answer = Scenario {
-            rounds: script.get(0..rounds)?,
-        }
-        .partitions(
+        let script = Scenario {
+            rounds: &script[..rounds],
+        };
+        let answer = script.partitions(
             1,
             term,
-            list.get(0..names)?,
-            primary.get_mut(0..first)?,
-            secondary.get_mut(0..second)?,
+            &list[..names],
+            &mut primary[..first],
+            &mut secondary[..second],
         );
-        for i in 0..65 {
-            if primary[i].number != 7 || secondary[i].number != 7 {
-                return None;
-            }
-        }
-        Some(refused(answer))
+        assert!(rt;
+            primary
+                .iter()
+                .chain(secondary.iter())
+                .all(|seat| seat.number == 7)
+        );
+        refused(answer)
     }
 
     // In their order, where two or more hold.
     #[test]
     fn partitions_are_refused(rt: HostRuntime) {
-        assert_eq!(rt; partitions_refused(65, 0, 65, 0, 0), Some(7));
-        assert_eq!(rt; partitions_refused(65, 1, 3, 3, 3), Some(7));
-        assert_eq!(rt; partitions_refused(64, 0, 65, 0, 0), Some(18));
-        assert_eq!(rt; partitions_refused(1, 0, 3, 3, 3), Some(18));
-        assert_eq!(rt; partitions_refused(1, 1, 65, 0, 0), Some(19));
-        assert_eq!(rt; partitions_refused(0, 1, 65, 65, 65), Some(19));
-        assert_eq!(rt; partitions_refused(1, 1, 3, 1, 2), Some(22));
-        assert_eq!(rt; partitions_refused(1, 1, 3, 2, 1), Some(22));
-        assert_eq!(rt; partitions_refused(0, 1, 64, 63, 64), Some(22));
-        assert_eq!(rt; partitions_refused(0, 1, 64, 64, 63), Some(22));
+        assert_eq!(rt; partitions_refused(&rt, 65, 0, 65, 0, 0), Some(7));
+        assert_eq!(rt; partitions_refused(&rt, 65, 1, 3, 3, 3), Some(7));
+        assert_eq!(rt; partitions_refused(&rt, 64, 0, 65, 0, 0), Some(18));
+        assert_eq!(rt; partitions_refused(&rt, 1, 0, 3, 3, 3), Some(18));
+        assert_eq!(rt; partitions_refused(&rt, 1, 1, 65, 0, 0), Some(19));
+        assert_eq!(rt; partitions_refused(&rt, 0, 1, 65, 65, 65), Some(19));
+        assert_eq!(rt; partitions_refused(&rt, 1, 1, 3, 1, 2), Some(22));
+        assert_eq!(rt; partitions_refused(&rt, 1, 1, 3, 2, 1), Some(22));
+        assert_eq!(rt; partitions_refused(&rt, 0, 1, 64, 63, 64), Some(22));
+        assert_eq!(rt; partitions_refused(&rt, 0, 1, 64, 64, 63), Some(22));
         // no names are no fault
-        assert_eq!(rt; partitions_refused(1, 1, 0, 0, 0), Some(0));
+        assert_eq!(rt; partitions_refused(&rt, 1, 1, 0, 0, 0), None);
     }
 
     // The number of the refusal of a route by so many rounds and names, which are seat 1 each.
-    fn route_refused(rounds: usize, term: u32, sender: u16, names: usize) -> Option<u8> {
+    fn route_refused(rounds: usize, term: u32, sender: u16, names: usize) -> Option<u8>
+        requires { (rounds ≤ 65) × (names ≤ 65) }
+    {
         let script = [round(); 65];
         let list = [seat(1); 65];
         let script = Scenario {
-            rounds: script.get(0..rounds)?,
+            rounds: &script[..rounds],
         };
-        Some(refused(script.route(1, term, &seat(sender), list.get(0..names)?)))
+        refused(script.route(1, term, &seat(sender), &list[..names]))
     }
 
     #[test]
@@ -162,45 +157,56 @@ mod tests {
         assert_eq!(rt; route_refused(1, 1, 2, 64), Some(21));
         assert_eq!(rt; route_refused(1, 1, 1, 0), Some(21));
         // past the script nothing is wrong with a sender that is no name
-        assert_eq!(rt; route_refused(0, 1, 2, 64), Some(0));
+        assert_eq!(rt; route_refused(0, 1, 2, 64), None);
     }
 
     // The number of the refusal of a split of so many names in two memories, which have to stay as they are. At view 2 the
     // cut of three names is at 2.
-    fn split_refused(term: u32, names: usize, first: usize, second: usize) -> Option<u8> {
+    fn split_refused(
+        rt: &impl Abort,
+        term: u32,
+        names: usize,
+        first: usize,
+        second: usize,
+    ) -> Option<u8>
+        requires { (names ≤ 65) × (first ≤ 65) × (second ≤ 65) }
+    {
         let list = [seat(1); 65];
         let mut primary = [seat(7); 65];
         let mut secondary = [seat(7); 65];
         let answer = view_partitions(
             2,
             term,
-            list.get(0..names)?,
-            primary.get_mut(0..first)?,
-            secondary.get_mut(0..second)?,
+            &list[..names],
+            &mut primary[..first],
+            &mut secondary[..second],
         );
-        for i in 0..65 {
-            if primary[i].number != 7 || secondary[i].number != 7 {
-                return None;
-            }
-        }
-        Some(refused(answer))
+        assert!(rt;
+            primary
+                .iter()
+                .chain(secondary.iter())
+                .all(|seat| seat.number == 7)
+        );
+        refused(answer)
     }
 
     #[test]
     fn splits_are_refused(rt: HostRuntime) {
-        assert_eq!(rt; split_refused(0, 65, 0, 0), Some(18));
-        assert_eq!(rt; split_refused(0, 0, 0, 0), Some(18));
-        assert_eq!(rt; split_refused(1, 65, 0, 0), Some(19));
-        assert_eq!(rt; split_refused(1, 0, 0, 0), Some(20));
-        assert_eq!(rt; split_refused(1, 3, 1, 1), Some(22));
-        assert_eq!(rt; split_refused(1, 3, 2, 0), Some(22));
-        assert_eq!(rt; split_refused(1, 64, 2, 61), Some(22));
+        assert_eq!(rt; split_refused(&rt, 0, 65, 0, 0), Some(18));
+        assert_eq!(rt; split_refused(&rt, 0, 0, 0, 0), Some(18));
+        assert_eq!(rt; split_refused(&rt, 1, 65, 0, 0), Some(19));
+        assert_eq!(rt; split_refused(&rt, 1, 0, 0, 0), Some(20));
+        assert_eq!(rt; split_refused(&rt, 1, 3, 1, 1), Some(22));
+        assert_eq!(rt; split_refused(&rt, 1, 3, 2, 0), Some(22));
+        assert_eq!(rt; split_refused(&rt, 1, 64, 2, 61), Some(22));
     }
 
     // The number of the refusal of a route by a split of so many names, which are seat 1 each.
-    fn split_route_refused(term: u32, sender: u16, names: usize) -> Option<u8> {
+    fn split_route_refused(term: u32, sender: u16, names: usize) -> Option<u8>
+        requires { names ≤ 65 }
+    {
         let list = [seat(1); 65];
-        Some(refused(view_route(2, term, &seat(sender), list.get(0..names)?)))
+        refused(view_route(2, term, &seat(sender), &list[..names]))
     }
 
     #[test]
@@ -219,8 +225,8 @@ mod tests {
         let mut secondary = [seat(8); 4];
         let answer = view_partitions(3, 1, &names, &mut primary, &mut secondary);
         assert_eq!(rt; answer.ok(), Some((3, 1)));
-        check_seats(&rt, &primary, &[10, 11, 12, 7]);
-        check_seats(&rt, &secondary, &[10, 8, 8, 8]);
+        assert_eq!(rt; numbers(primary), [10, 11, 12, 7]);
+        assert_eq!(rt; numbers(secondary), [10, 8, 8, 8]);
         let target = view_route(3, 1, &seat(10), &names).ok();
         assert_eq!(rt; target, Some(SplitTarget::Both));
         let target = view_route(3, 1, &seat(12), &names).ok();
@@ -230,32 +236,22 @@ mod tests {
     // A script over an elector of 4 participants by turns has to be refused with this number.
     // What comes back has to be empty, and to have the leaders of the elector below.
     fn check_script_refused(rt: &impl Abort, leaders: &[usize], number: u8) -> Result<(), Fail> {
-        match Rotation::new(4, 5) {
-            Ok(below) => match ElectorState::new(below, leaders) {
-                Ok(_) => {
-                    assert!(rt; false);
-                    Ok(())
-                },
-                Err(back) => {
-                    assert_eq!(rt; back.refusal.number(), number);
-                    assert_eq!(rt; back.script.leaders().len(), 0);
-                    assert_eq!(rt; back.script.participants(), 4);
-                    assert_eq!(rt; back.script.term_length().get(), 5);
-                    assert_eq!(rt; back.script.elect(3, 6, &Scheduled), 2);
-                    for view in [0u64, 1, 5, 10, 11, 16, 21, 18446744073709551615] {
-                        assert_eq!(rt;
-                            back.script.elect(3, view, &Scheduled),
-                            below.elect(3, view, &Scheduled)
-                        );
-                    }
-                    Ok(())
-                }
-            },
-            Err(_) => {
-                assert!(rt; false);
-                Ok(())
-            },
+        let below = Rotation::new(4, 5)?;
+        let Err(back) = ElectorState::new(below, leaders) else {
+            panic!(rt; "not refused");
+        };
+        assert_eq!(rt; back.refusal.number(), number);
+        assert_eq!(rt; back.script.leaders().len(), 0);
+        assert_eq!(rt; back.script.participants(), 4);
+        assert_eq!(rt; back.script.term_length().get(), 5);
+        assert_eq!(rt; back.script.elect(3, 6, &Scheduled), 2);
+        for view in [0u64, 1, 5, 10, 11, 16, 21, 18446744073709551615] {
+            assert_eq!(rt;
+                back.script.elect(3, view, &Scheduled),
+                below.elect(3, view, &Scheduled)
+            );
         }
+        Ok(())
     }
 
     #[test]
@@ -268,25 +264,15 @@ mod tests {
 
     #[test]
     fn scripts_lead_over_a_lot(rt: HostRuntime) -> Result<(), Fail> {
-        match Lot::new(4, 5) {
-            Ok(below) => match ElectorState::new(below, &[0, 3]) {
-                Ok(script) => {
-                    let input = Dynamic { number: 9 };
-                    assert_eq!(rt; script.elect(0, 5, &input), 0);
-                    assert_eq!(rt; script.elect(0, 6, &input), 3);
-                    assert_eq!(rt; script.elect(0, 10, &input), 3);
-                    assert_eq!(rt; script.elect(0, 11, &input), 1);
-                    Ok(())
-                }
-                Err(_) => {
-                    assert!(rt; false);
-                    Ok(())
-                },
-            },
-            Err(_) => {
-                assert!(rt; false);
-                Ok(())
-            },
-        }
+        let below = Lot::new(4, 5)?;
+        let Ok(script) = ElectorState::new(below, &[0, 3]) else {
+            panic!(rt; "refused");
+        };
+        let input = Dynamic { number: 9 };
+        assert_eq!(rt; script.elect(0, 5, &input), 0);
+        assert_eq!(rt; script.elect(0, 6, &input), 3);
+        assert_eq!(rt; script.elect(0, 10, &input), 3);
+        assert_eq!(rt; script.elect(0, 11, &input), 1);
+        Ok(())
     }
 }
