@@ -1,5 +1,5 @@
 -- What is read of the words of a line.
-use Rattle.std.specs.Prelude.{◌≡◌, ℕ, Bool, true, false, cond, List, [], ◌∷◌, Option, Result, Ok, Err, MatchOption, MatchResult, codes}
+use Rattle.std.specs.Prelude.{◌≡◌, ℕ, Bool, true, false, cond, List, [], ◌∷◌, Option, Some, IfSome, Result, Ok, Err, MatchOption, MatchResult, codes}
 use Rattle.std.specs.Str.{bytes_eq}
 use Rattle.std.specs.Str.Iter.{split_whitespace_steps}
 use Rattle.std.specs.declared.str.SplitWhitespace.{SplitWhitespace}
@@ -26,3 +26,8 @@ abbrev pub AreNext : {T E : Type 0} → (List ℕ → Result T E → Type 0) →
 AreNext gives same s [] r t = (r ≡ Ok true) × (t ≡ s)
 AreNext {T} gives same s (x ∷ xs) r t = (u : SplitWhitespace) × (word : Result T Unasked) × Reads gives s u word
     × MatchResult word (λ y. elim (same y x) [ true ↦ AreNext gives same u xs r t | false ↦ (r ≡ Ok false) × (t ≡ u) ]) (λ e. (r ≡ Err e) × (t ≡ u))
+
+-- the words are read as the values xs, one after the other, and then there is a word that is none, or no word
+abbrev pub ReadsWhile : {T E : Type 0} → (List ℕ → Result T E → Type 0) → SplitWhitespace → List T → Option (Bor (List ℕ)) → SplitWhitespace → Type 0
+ReadsWhile {T} {E} gives s [] end t = split_whitespace_steps s end t × IfSome end (λ w. (e : E) × gives w.now (Err e))
+ReadsWhile gives s (x ∷ xs) end t = (u : SplitWhitespace) × (w : Bor (List ℕ)) × split_whitespace_steps s (Some w) u × gives w.now (Ok x) × ReadsWhile gives u xs end t

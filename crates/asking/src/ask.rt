@@ -19,6 +19,7 @@ fn kind_of<Q: Question>(word: &str) -> Option<Q>
 // False too where the line is no question: it belongs to no tally, so the line number is all that tells of it.
 fn ask<Q: Question>(
     line: &str,
+    heap: Global,
     memory: &mut Q::Memory,
     tallies: &mut Tallies<Q>,
 ) -> Result<bool, AllocError>
@@ -29,9 +30,9 @@ fn ask<Q: Question>(
     let Some(kind) = words.next().and_then(|word| kind_of::<Q>(word)) else {
         return Ok(false);
     };
-    let agreed = match kind.agrees(&mut words, memory) {
+    let agreed = match kind.agrees(&mut words, heap, memory) {
         Ok(agrees) => agrees && words.next().is_none(),
-        Err(Unasked::Memory(error)) => return Err(error),
+        Err(Unasked::Memory) => return Err(AllocError),
         Err(_) => false,
     };
     tallies.note(kind, agreed);
@@ -47,7 +48,7 @@ pub fn ask_all<Q: Question, R: Input + Print>(
 ) -> io::Result<()> {
     let mut tallies = Tallies::<Q>::none(heap)?;
     for (before, line) in rt.lines(heap).enumerate() {
-        if !ask(line?.as_str(), memory, &mut tallies)? {
+        if !ask(line?.as_str(), heap, memory, &mut tallies)? {
             println!(rt; "line {} does not agree", before + 1)?;
         }
     }

@@ -15,4 +15,4 @@ pub use ask::ask_all;
 pub use question::Question;
 pub use round::Round;
 pub use unasked::Unasked;
-pub use words::{Bar, are_next, read};
+pub use words::{Bar, are_next, read, read_while};

@@ -2,6 +2,7 @@
 ghost use Rattle.std.specs.Prelude.{◌≡◌, ℕ, List};
 
 use crate::unasked::Unasked;
+use std::alloc::Global;
 use std::str::SplitWhitespace;
 
 // A kind of question, by the word that a line of it begins with.
@@ -25,6 +26,7 @@ pub trait Question: Copy + PartialEq + 'static {
     fn agrees(
         self,
         words: &mut SplitWhitespace<'_>,
+        heap: Global,
         memory: &mut Self::Memory,
     ) -> Result<bool, Unasked>;
 }

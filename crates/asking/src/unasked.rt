@@ -3,7 +3,7 @@ ghost use Rattle.asking.specs.declared.unasked.Unasked.TheVariants.{Refused, Mem
 ghost use Rattle.std.specs.Prelude.{◌≡◌};
 
 use refusals::Refusal;
-use std::alloc::AllocError;
+use std::alloc::{AllocError, AllocFailed};
 
 #[derive(Clone, Copy, PartialEq, Eq)]
 pub enum Unasked {
@@ -12,7 +12,7 @@ pub enum Unasked {
     // its question is refused
     Refused(Refusal),
     // there is no memory to answer it in
-    Memory(AllocError),
+    Memory,
 }
 
 impl From<Refusal> for Unasked {
@@ -24,9 +24,17 @@ impl From<Refusal> for Unasked {
 }
 
 impl From<AllocError> for Unasked {
-    ghost from_gives = { λ error e. e ≡ Memory error };
+    ghost from_gives = { λ _ e. e ≡ Memory };
 
-    fn from(error: AllocError) -> Unasked {
-        Unasked::Memory(error)
+    fn from(_error: AllocError) -> Unasked {
+        Unasked::Memory
+    }
+}
+
+impl<T: Drop> From<AllocFailed<T>> for Unasked {
+    ghost from_gives = { λ _ e. e ≡ Memory };
+
+    fn from(_error: AllocFailed<T>) -> Unasked {
+        Unasked::Memory
     }
 }

@@ -1,8 +1,9 @@
 // Reading the words of a line.
-ghost use Rattle.std.specs.Prelude.{◌≡◌};
+ghost use Rattle.std.specs.Prelude.{◌≡◌, IfOk};
 ghost use Rattle.asking.specs.Words as told;
 
 use crate::unasked::Unasked;
+use std::alloc::{AllocError, Global};
 use std::str::{FromStr, SplitWhitespace};
 
 // The next word, as a value of the type that is wanted.
@@ -15,6 +16,25 @@ where
         Some(word) => word.parse::<T>().map_err(|_| Unasked::Form),
         None => Err(Unasked::Form),
     }
+}
+
+// The values that the next words write, up to a word that writes none, and that word; it is missing where the line ends before.
+pub fn read_while<'a, T: FromStr + Drop>(
+    words: &mut SplitWhitespace<'a>,
+    heap: Global,
+) -> Result<(Vec<T>, Option<&'a str>), AllocError>
+where
+    T::Err: Drop,
+    ensures { IfOk result (λ read. told.ReadsWhile T.from_str_gives words.old read.0.items read.1 words.new) }
+{
+    let mut items = Vec::new(heap);
+    while let Some(word) = words.next() {
+        match word.parse::<T>() {
+            Ok(item) => items.push(item)?,
+            Err(_) => return Ok((items, Some(word))),
+        }
+    }
+    Ok((items, None))
 }
 
 // Whether the words that come next are these; those behind the first that is not are left.
