@@ -1,5 +1,4 @@
 use Rattle.std.proofs.Common.{[], ◌∷◌, Some, None, append_assoc, append-nil}
-use Rattle.asking.specs.Words as told
 use Rattle.asking.proofs.words.read_while.Goals as goal
 
 pub loop-word-preserved : goal.loop-word-preserved
