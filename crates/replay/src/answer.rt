@@ -1,19 +1,40 @@
-// Asking the questions again. Each answers whether the stored answer agrees, and none where the line breaks its form or the
-// question is refused.
+// Asking the questions again. Each answers whether the stored answer agrees.
 ghost use Rattle.std.specs.Prelude.{◌≡◌};
 ghost use Rattle.scenarios.specs.Edges.{edge_in};
 ghost use Rattle.replay.specs.Told.{edge_told, edges_told};
 
-use crate::tally::Kind;
-use crate::words::{read_number, read_plan, read_rounds};
-use scenarios::{CellState, Plan, RoundScenario, Slot, edge_at};
+use asking::{Round, Unasked, are_next, read, read_while};
+use scenarios::{CellState, CountedPlan, Mode, Plan, RoundScenario, Slot, edge_at};
+use std::alloc::Global;
 use std::str::SplitWhitespace;
 
-fn total_agrees(words: &mut SplitWhitespace<'_>, memory: &mut [Slot]) -> Option<bool> {
+// A plan by its participants, rounds and mode. Faults and cap have no part in what is asked, so any that are allowed do.
+fn read_plan(words: &mut SplitWhitespace<'_>) -> Result<Plan, Unasked> {
+    let participants = read::<usize>(words)?;
+    let rounds = read::<usize>(words)?;
+    let mode = match read::<char>(words)? {
+        's' => Mode::Sampled,
+        'u' => Mode::Sustained,
+        _ => return Err(Unasked::Form),
+    };
+    Ok(Plan::new(participants, 1, rounds, mode, 1)?)
+}
+
+fn count(plan: Plan, memory: &mut [Slot]) -> Result<CountedPlan<'_>, Unasked> {
+    match plan.count(memory) {
+        Ok(counted) => Ok(counted),
+        Err(refused) => Err(Unasked::Refused(refused.refusal)),
+    }
+}
+
+pub(crate) fn total_agrees(
+    words: &mut SplitWhitespace<'_>,
+    memory: &mut [Slot],
+) -> Result<bool, Unasked> {
     let plan = read_plan(words)?;
-    let total = read_number(words)?;
-    let counted = plan.count(memory).ok()?;
-    Some(counted.total() == total)
+    let total = read::<u64>(words)?;
+    let counted = count(plan, memory)?;
+    Ok(counted.total() == total)
 }
 
 // Whether the state has an edge at the last of so many places, and none behind it.
@@ -24,116 +45,75 @@ fn edges_are(n: usize, boundaries: u64, count: usize) -> bool
     count > 0 && edge_at(n, state, count - 1).is_some() && edge_at(n, state, count).is_none()
 }
 
-fn edges_agree(words: &mut SplitWhitespace<'_>) -> Option<bool> {
-    let n = read_number(words)?;
-    let state = read_number(words)?;
-    let count = read_number(words)?;
-    Some(edges_are(n as usize, state, count as usize))
+pub(crate) fn edges_agree(words: &mut SplitWhitespace<'_>) -> Result<bool, Unasked> {
+    let n = read(words)?;
+    let state = read(words)?;
+    let count = read(words)?;
+    Ok(edges_are(n, state, count))
 }
 
 // Whether the edge at this place leads to this state, is led by this cell, and stands for so many rounds.
 fn edge_is(n: usize, boundaries: u64, place: usize, next: u64, leader: usize, rounds: u64) -> bool
     ensures { result ≡ edge_told (edge_in n boundaries place) next leader rounds }
 {
-    match edge_at(n, CellState { boundaries }, place) {
-        Some(e) => e.next.boundaries == next
-            && e.leader == leader
-            && e.multiplicity == rounds as u128,
-        None => false,
-    }
+    edge_at(n, CellState { boundaries }, place).is_some_and(|edge| {
+        edge.next.boundaries == next
+            && edge.leader == leader
+            && edge.multiplicity == u128::from(rounds)
+    })
 }
 
-fn edge_agrees(words: &mut SplitWhitespace<'_>) -> Option<bool> {
-    let n = read_number(words)?;
-    let state = read_number(words)?;
-    let place = read_number(words)?;
-    let next = read_number(words)?;
-    let leader = read_number(words)?;
-    let rounds = read_number(words)?;
-    Some(edge_is(
-        n as usize,
-        state,
-        place as usize,
-        next,
-        leader as usize,
-        rounds,
-    ))
+pub(crate) fn edge_agrees(words: &mut SplitWhitespace<'_>) -> Result<bool, Unasked> {
+    let n = read(words)?;
+    let state = read(words)?;
+    let place = read(words)?;
+    let next = read(words)?;
+    let leader = read(words)?;
+    let rounds = read(words)?;
+    Ok(edge_is(n, state, place, next, leader, rounds))
 }
 
-fn same_rounds(a: &[RoundScenario], b: &[RoundScenario]) -> bool {
-    if a.len() != b.len() {
-        return false;
-    }
-    for i in 0..a.len() {
-        if a[i] != b[i] {
-            return false;
-        }
-    }
-    true
-}
-
-// Whether the words that come next are the sizes of the cells of the state.
-fn cells_agree(words: &mut SplitWhitespace<'_>, n: usize, state: CellState) -> Option<bool> {
-    let mut size: u64 = 0;
-    for i in 0..n {
-        size = size.saturating_add(1);
-        if state.boundary_after(i) || i + 1 >= n {
-            if read_number(words)? != size {
-                return Some(false);
-            }
-            size = 0;
-        }
-    }
-    Some(true)
+// The rounds up to the bar.
+fn read_rounds(
+    words: &mut SplitWhitespace<'_>,
+    heap: Global,
+) -> Result<Vec<RoundScenario>, Unasked> {
+    let (rounds, Some("|")) = read_while::<Round>(words, heap)? else {
+        return Err(Unasked::Form);
+    };
+    Ok(rounds.iter().map(|read| read.round).collect(heap)?)
 }
 
 // A scenario has to be canonical, to be found by its rank, and to have the rank that finds it; both ways the same cells are
-// left. Stored and found rounds have as many slots as the plan has rounds.
-fn scenario_agrees(
+// left.
+pub(crate) fn unrank_agrees(
     words: &mut SplitWhitespace<'_>,
-    plan: Plan,
-    stored: &mut [RoundScenario],
-    found: &mut [RoundScenario],
+    heap: Global,
     memory: &mut [Slot],
-) -> Option<bool> {
-    let n = plan.participants();
-    let rank = read_number(words)?;
-    read_rounds(words, stored)?;
-    let left = plan.canonical(stored).ok()?;
-    let counted = plan.count(memory).ok()?;
-    let state = counted.scenario(rank, found).ok()?;
-    let there = same_rounds(stored, found) && state.boundaries == left.boundaries;
-    let back = counted.rank(stored).ok()? == rank;
-    Some(cells_agree(words, n, state)? && there && back)
-}
-
-fn unrank_agrees(words: &mut SplitWhitespace<'_>, memory: &mut [Slot]) -> Option<bool> {
+) -> Result<bool, Unasked> {
     let plan = read_plan(words)?;
-    let len = plan.rounds();
-    // no plan has more rounds, and the memory below holds as many
-    if len > 64 {
-        return None;
-    }
+    let rank = read::<u64>(words)?;
+    let stored = read_rounds(words, heap)?;
+    let left = plan.canonical(&stored)?;
+    let (ranges, cells) = left.cell_ranges(plan.participants())?;
+    let counted = count(plan, memory)?;
     let nothing = RoundScenario {
         leader: 0,
         primary: 0,
         secondary: 0,
     };
-    let mut stored = [nothing; 64];
-    let mut found = [nothing; 64];
-    scenario_agrees(words, plan, &mut stored[0..len], &mut found[0..len], memory)
-}
-
-// Whether the answer of a question agrees; the words behind its answer are left over.
-pub(crate) fn agrees(
-    kind: Kind,
-    words: &mut SplitWhitespace<'_>,
-    memory: &mut [Slot],
-) -> Option<bool> {
-    match kind {
-        Kind::Total => total_agrees(words, memory),
-        Kind::Edges => edges_agree(words),
-        Kind::Edge => edge_agrees(words),
-        Kind::Unrank => unrank_agrees(words, memory),
-    }
+    let mut found = vec![in heap; nothing; stored.len()]?;
+    let state = counted.scenario(rank, &mut found)?;
+    let back = counted.rank(&stored)?;
+    let sizes: Vec<usize> = ranges
+        .iter()
+        .take(cells)
+        .map(|(_, size)| *size)
+        .collect(heap)?;
+    Ok(
+        are_next(words, &sizes)?
+            && found.as_slice() == stored.as_slice()
+            && state.boundaries == left.boundaries
+            && back == rank,
+    )
 }

@@ -1,146 +1,89 @@
 // Asking again who leads a view, by none to three scripts over an elector.
-use crate::line::{read_number, read_term};
+use asking::{Unasked, read};
 use electors::{Dynamic, Elector, ElectorState, Lot, Rotation, Scheduled};
 use refusals::Refusal;
+use std::alloc::Global;
 use std::str::SplitWhitespace;
 
-// A script; the first `len` are its leaders.
-#[derive(Clone, Copy)]
-struct Script {
-    leaders: [usize; 64],
-    len: usize,
-}
-
-// None to three scripts, the outermost first.
-#[derive(Clone, Copy)]
-struct Pile {
-    height: usize,
-    scripts: [Script; 3],
-}
-
-fn script_of(word: &str) -> Option<Script> {
-    let mut leaders = [0usize; 64];
+// The leaders of a script.
+fn script_of(word: &str, heap: Global) -> Result<Vec<usize>, Unasked> {
+    let mut leaders = Vec::new(heap);
     if word == "-" {
-        return Some(Script { leaders, len: 0 });
+        return Ok(leaders);
     }
-    let mut rest = word;
-    for i in 0..64 {
-        match rest.split_once(',') {
-            Some((leader, more)) => {
-                leaders[i] = leader.parse::<usize>().ok()?;
-                rest = more;
-            }
-            None => {
-                leaders[i] = rest.parse::<usize>().ok()?;
-                return Some(Script {
-                    leaders,
-                    len: i + 1,
-                });
-            }
-        }
+    for leader in word.split(',') {
+        leaders.push(leader.parse::<usize>().map_err(|_| Unasked::Form)?)?;
     }
-    None
+    Ok(leaders)
 }
 
-fn read_pile(words: &mut SplitWhitespace<'_>) -> Option<Pile> {
-    let height = read_number(words)? as usize;
-    let empty = Script {
-        leaders: [0usize; 64],
-        len: 0,
-    };
-    let mut scripts = [empty; 3];
-    for i in 0..height {
-        if i >= 3 {
-            return None;
-        }
-        scripts[i] = script_of(words.next()?)?;
+// A pile of scripts, the outermost first.
+fn read_pile(words: &mut SplitWhitespace<'_>, heap: Global) -> Result<Vec<Vec<usize>>, Unasked> {
+    let mut pile = Vec::new(heap);
+    for _ in 0..read::<u64>(words)? {
+        let word = words.next().ok_or(Unasked::Form)?;
+        pile.push(script_of(word, heap)?)?;
     }
-    Some(Pile { height, scripts })
+    Ok(pile)
 }
 
-impl Script {
-    // The script over an elector.
-    fn over<E: Elector + Drop>(&self, below: E) -> Result<ElectorState<E>, Refusal> {
-        let len = self.len.min(64);
-        match ElectorState::new(below, &self.leaders[0..len]) {
-            Ok(state) => Ok(state),
-            Err(refused) => Err(refused.refusal),
-        }
-    }
+// The script over an elector.
+fn over<E: Elector + Drop>(below: E, leaders: &[usize]) -> Result<ElectorState<E>, Refusal> {
+    ElectorState::new(below, leaders).map_err(|refused| refused.refusal)
 }
 
-// The leader of a view, and whether it is the same at other epochs.
-fn leader_at<I, E: Elector<Mode = I>>(elector: &E, view: u64, input: &I) -> (usize, bool) {
+// The leader of a view, where it is the same at other epochs.
+fn leader_at<I, E: Elector<Mode = I>>(elector: &E, view: u64, input: &I) -> Option<usize> {
     let leader = elector.elect(0, view, input);
-    let same = elector.elect(1, view, input) == leader
-        && elector.elect(view, view, input) == leader
-        && elector.elect(u64::MAX, view, input) == leader;
-    (leader, same)
+    [1, view, u64::MAX]
+        .iter()
+        .all(|epoch| elector.elect(*epoch, view, input) == leader)
+        .then_some(leader)
 }
 
-fn under_one<I, E: Elector<Mode = I> + Drop>(
+// The same under a pile of scripts.
+fn led_under<I, E: Elector<Mode = I> + Drop>(
     below: E,
-    outer: &Script,
+    pile: &[Vec<usize>],
     view: u64,
     input: &I,
-) -> Result<(usize, bool), Refusal> {
-    let one = outer.over(below)?;
-    Ok(leader_at(&one, view, input))
-}
-
-fn under_two<I, E: Elector<Mode = I> + Drop>(
-    below: E,
-    inner: &Script,
-    outer: &Script,
-    view: u64,
-    input: &I,
-) -> Result<(usize, bool), Refusal> {
-    under_one(inner.over(below)?, outer, view, input)
-}
-
-// The leader under a pile of scripts, and whether it is the same at other epochs.
-fn under_pile<I, E: Elector<Mode = I> + Drop>(
-    below: E,
-    pile: &Pile,
-    view: u64,
-    input: &I,
-) -> Result<(usize, bool), Refusal> {
-    let [a, b, c] = &pile.scripts;
-    match pile.height {
-        0 => Ok(leader_at(&below, view, input)),
-        1 => under_one(below, a, view, input),
-        2 => under_two(below, b, a, view, input),
-        _ => under_two(c.over(below)?, b, a, view, input),
+) -> Result<Option<usize>, Unasked> {
+    match pile {
+        [] => Ok(leader_at(&below, view, input)),
+        [a] => Ok(leader_at(&over(below, a)?, view, input)),
+        [a, b] => Ok(leader_at(&over(over(below, b)?, a)?, view, input)),
+        [a, b, c] => Ok(leader_at(&over(over(over(below, c)?, b)?, a)?, view, input)),
+        _ => Err(Unasked::Form),
     }
 }
 
 // By turns, or by lot with a number.
 fn led(
     word: &str,
-    pile: &Pile,
+    pile: &[Vec<usize>],
     count: usize,
     view: u64,
     term: u32,
-) -> Option<Result<(usize, bool), Refusal>> {
+) -> Result<Option<usize>, Unasked> {
     if word == "rot" {
-        let below = Rotation::new(count, term).ok()?;
-        return Some(under_pile(below, pile, view, &Scheduled));
+        return led_under(Rotation::new(count, term)?, pile, view, &Scheduled);
     }
-    let number = word.strip_prefix("lot:")?.parse::<u64>().ok()?;
-    let below = Lot::new(count, term).ok()?;
-    Some(under_pile(below, pile, view, &Dynamic { number }))
+    let lot = word.strip_prefix("lot:").ok_or(Unasked::Form)?;
+    let number = lot.parse::<u64>().map_err(|_| Unasked::Form)?;
+    led_under(Lot::new(count, term)?, pile, view, &Dynamic { number })
 }
 
 // The Rust panics where a leader of a script is no participant.
-pub(crate) fn elect_agrees(words: &mut SplitWhitespace<'_>) -> Option<bool> {
-    let pile = read_pile(words)?;
-    let view = read_number(words)?;
-    let term = read_term(words)?;
-    let count = read_number(words)? as usize;
-    let answer = led(words.next()?, &pile, count, view, term)?;
-    let word = words.next()?;
-    match answer {
-        Ok((leader, same)) => Some(word.parse::<usize>().ok()? == leader && same),
-        Err(refusal) => Some(word == "panic" && refusal.number() == 23),
+pub(crate) fn elect_agrees(words: &mut SplitWhitespace<'_>, heap: Global) -> Result<bool, Unasked> {
+    let pile = read_pile(words, heap)?;
+    let view = read(words)?;
+    let term = read(words)?;
+    let count = read(words)?;
+    let below = words.next().ok_or(Unasked::Form)?;
+    let told = words.next().ok_or(Unasked::Form)?;
+    match led(below, &pile, count, view, term) {
+        Ok(leader) => Ok(leader.is_some() && told.parse::<usize>().ok() == leader),
+        Err(Unasked::Refused(Refusal::LeaderOutOfRange)) => Ok(told == "panic"),
+        Err(unasked) => Err(unasked),
     }
 }

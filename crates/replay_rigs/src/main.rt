@@ -28,74 +28,26 @@
 
 #![tactic(auto)]
 
+use asking::ask_all;
+use sampling::RankSlot;
 use std::io;
-use std::io::{BufRead, BufReader, BufWriter, Write};
+use table::Entry;
 
 mod allocation;
-mod answer;
 mod chance;
-mod groups;
+mod kind;
 mod leading;
-mod line;
-mod memory;
 mod names;
 mod place;
-mod routes;
-mod tally;
+mod splits;
 
-use answer::agrees;
-use line::kind_of;
-use memory::Memory;
-use tally::{Tallies, Tally};
+use kind::Kind;
 
-// Asks the question of a line, and notes in the tally of its kind whether the answer agrees.
-// False too where the line is no question: it belongs to no tally, so the line number is all that tells of it.
-fn replay_line(line: &str, memory: &mut Memory, tallies: &mut Tallies) -> bool {
-    let mut words = line.split_whitespace();
-    match words.next() {
-        Some(word) => match kind_of(word) {
-            Some(kind) => {
-                let agreed = agrees(kind, &mut words, memory) == Some(true)
-                    && words.next().is_none();
-                tallies.note(kind, agreed);
-                agreed
-            }
-            None => false,
-        },
-        None => false,
-    }
-}
-
-fn write_tally<W: Write>(out: &mut W, kind: &str, tally: Tally) -> io::Result<()> {
-    writeln!(out, "{kind} {} of {} agree", tally.agreed, tally.asked)
-}
-
-fn write_tallies<W: Write>(out: &mut W, tallies: &Tallies) -> io::Result<()> {
-    write_tally(out, "sample", tallies.sample)?;
-    write_tally(out, "shuffle", tallies.shuffle)?;
-    write_tally(out, "splitmix", tallies.splitmix)?;
-    write_tally(out, "sets", tallies.sets)?;
-    write_tally(out, "set", tallies.set)?;
-    write_tally(out, "place", tallies.place)?;
-    write_tally(out, "partitions", tallies.partitions)?;
-    write_tally(out, "route", tallies.route)?;
-    write_tally(out, "view_partitions", tallies.view_partitions)?;
-    write_tally(out, "view_route", tallies.view_route)?;
-    write_tally(out, "elect", tallies.elect)
-}
+// How many ranks are drawn at most.
+const RANKS: usize = 4000;
 
 fn main(rt: HostRuntime) -> io::Result<()> {
     let heap = rt.alloc();
-    let mut memory = Memory::new(heap)?;
-    let mut out = BufWriter::new(heap, rt.stdout())?;
-    let mut tallies = Tallies::none();
-    let mut number: u64 = 0;
-    for line in BufReader::new(heap, rt.stdin())?.lines(heap) {
-        number = number.saturating_add(1);
-        if !replay_line(line?.as_str(), &mut memory, &mut tallies) {
-            writeln!(out, "line {number} does not agree")?;
-        }
-    }
-    write_tallies(&mut out, &tallies)?;
-    out.flush()
+    let mut memory: Vec<RankSlot> = vec![in heap; Entry { key: 0, value: () }; RANKS]?;
+    ask_all::<Kind, _>(&rt, heap, &mut memory)
 }

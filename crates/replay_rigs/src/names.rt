@@ -1,116 +1,68 @@
-// The names of a question, and memory for groups of them. Each is there twice, as seats and as keys.
-use std::str::SplitWhitespace;
+// The names of a question, which are asked as seats and as keys, and memory for groups of them.
+use asking::Unasked;
+use std::alloc::{AllocError, Global};
 use views::{Name, PublicKey, Seat};
-
-// At most 64, and a slot behind them.
-const NAMES: usize = 65;
 
 // More than a group can have, so that some slots stay behind each.
 const ROOM: usize = 66;
 
-// The first `len` of each are the names.
-#[derive(Clone, Copy)]
-pub(crate) struct Names {
-    seats: [Seat; NAMES],
-    keys: [PublicKey; NAMES],
-    len: usize,
+// A kind of name that has one for each number.
+pub(crate) trait Numbered: Name {
+    fn numbered(number: u16) -> Self;
 }
 
-// Memory for a group.
-#[derive(Clone, Copy)]
-pub(crate) struct Room {
-    pub(crate) seats: [Seat; ROOM],
-    pub(crate) keys: [PublicKey; ROOM],
-}
-
-// Memory for the groups of both halves; the marker is no name of the question.
-#[derive(Clone, Copy)]
-pub(crate) struct Rooms {
-    pub(crate) first: Room,
-    pub(crate) second: Room,
-    pub(crate) marker: u16,
-}
-
-// The key of a number has its bytes in the first place and in the last.
-pub(crate) fn key_of(number: u16) -> PublicKey {
-    let [high, low] = number.to_be_bytes();
-    let mut bytes = [0u8; 32];
-    bytes[0] = low;
-    bytes[31] = high;
-    PublicKey { bytes }
-}
-
-// The names up to the bar; none where they are too many.
-pub(crate) fn read_names(words: &mut SplitWhitespace<'_>) -> Option<Names> {
-    let mut seats = [Seat { number: 0 }; NAMES];
-    let mut keys = [key_of(0); NAMES];
-    for len in 0..NAMES {
-        let word = words.next()?;
-        if word == "|" {
-            return Some(Names { seats, keys, len });
-        }
-        let number = word.parse::<u16>().ok()?;
-        seats[len] = Seat { number };
-        keys[len] = key_of(number);
-    }
-    None
-}
-
-impl Names {
-    pub(crate) fn seats(&self) -> Option<&[Seat]> {
-        self.seats.get(0..self.len)
-    }
-
-    pub(crate) fn keys(&self) -> Option<&[PublicKey]> {
-        self.keys.get(0..self.len)
-    }
-
-    fn has(&self, number: u16) -> bool {
-        for i in 0..NAMES {
-            if i < self.len && self.seats[i].number == number {
-                return true;
-            }
-        }
-        false
-    }
-
-    // Memory that holds, in every slot, the least number that is no name.
-    pub(crate) fn rooms(&self) -> Option<Rooms> {
-        for marker in 0..100u16 {
-            if !self.has(marker) {
-                let room = Room::marked(marker);
-                return Some(Rooms {
-                    first: room,
-                    second: room,
-                    marker,
-                });
-            }
-        }
-        None
-    }
-
-    pub(crate) fn len(&self) -> usize {
-        self.len
+impl Numbered for Seat {
+    fn numbered(number: u16) -> Seat {
+        Seat { number }
     }
 }
 
-impl Room {
+impl Numbered for PublicKey {
+    // Its bytes are those of the number, in the first place and in the last.
+    fn numbered(number: u16) -> PublicKey {
+        let [high, low] = number.to_be_bytes();
+        let mut bytes = [0u8; 32];
+        bytes[0] = low;
+        bytes[31] = high;
+        PublicKey { bytes }
+    }
+}
+
+pub(crate) fn named<N: Numbered>(heap: Global, numbers: &[u16]) -> Result<Vec<N>, AllocError> {
+    numbers
+        .iter()
+        .map(|number| N::numbered(*number))
+        .collect(heap)
+}
+
+// The least number that is none of these.
+pub(crate) fn unused(numbers: &[u16]) -> Result<u16, Unasked> {
+    (0..u16::MAX)
+        .find(|number| !numbers.contains(number))
+        .ok_or(Unasked::Form)
+}
+
+// Memory for a group; the marker is no name of the question.
+#[derive(Drop)]
+pub(crate) struct Room<N> {
+    pub(crate) slots: Vec<N>,
+    marker: u16,
+}
+
+impl<N: Numbered> Room<N> {
     // Every slot holds the marker.
-    fn marked(marker: u16) -> Room {
-        Room {
-            seats: [Seat { number: marker }; ROOM],
-            keys: [key_of(marker); ROOM],
-        }
+    pub(crate) fn marked(heap: Global, marker: u16) -> Result<Room<N>, AllocError> {
+        Ok(Room {
+            slots: vec![in heap; N::numbered(marker); ROOM]?,
+            marker,
+        })
     }
 
-    // Whether the slots from a place on still hold the marker, and all keys are those of the seats.
-    pub(crate) fn kept_from(&self, place: usize, marker: u16) -> bool {
-        for i in 0..ROOM {
-            let number = self.seats[i].number;
-            if i >= place && number != marker || !self.keys[i].same(&key_of(number)) {
-                return false;
-            }
-        }
-        true
+    // Whether the first slots hold this group, and those behind it still the marker.
+    pub(crate) fn holds(&self, group: &[u16]) -> bool {
+        self.slots.iter().enumerate().all(|(place, slot)| {
+            let number = group.get(place).copied().unwrap_or(self.marker);
+            slot.same(&N::numbered(number))
+        })
     }
 }

@@ -2,7 +2,7 @@
 ghost use Rattle.std.specs.Prelude.{◌≡◌};
 ghost use Rattle.replay_rigs.specs.Told.{place_told};
 
-use crate::line::{read_number, read_term};
+use asking::{Unasked, read};
 use std::str::SplitWhitespace;
 use terms::TermLength;
 
@@ -10,19 +10,16 @@ use terms::TermLength;
 fn place_is(view: u64, length: u32, index: u64, place: u64, start: u64) -> bool
     ensures { result ≡ place_told length view index place start }
 {
-    match TermLength::new(length) {
-        Ok(term) => term.index(view) == index
-            && term.script_place(view) == place
-            && term.start(view) == start,
-        Err(_) => false,
-    }
+    TermLength::new(length).is_ok_and(|term| {
+        term.index(view) == index && term.script_place(view) == place && term.start(view) == start
+    })
 }
 
-pub(crate) fn place_agrees(words: &mut SplitWhitespace<'_>) -> Option<bool> {
-    let view = read_number(words)?;
-    let length = read_term(words)?;
-    let index = read_number(words)?;
-    let place = read_number(words)?;
-    let start = read_number(words)?;
-    Some(place_is(view, length, index, place, start))
+pub(crate) fn place_agrees(words: &mut SplitWhitespace<'_>) -> Result<bool, Unasked> {
+    let view = read(words)?;
+    let length = read(words)?;
+    let index = read(words)?;
+    let place = read(words)?;
+    let start = read(words)?;
+    Ok(place_is(view, length, index, place, start))
 }
