@@ -100,13 +100,9 @@ fn choice_rank(roles: u8) -> u64
     requires { roles < 16 }
     ensures { RanksChoice roles result }
 {
-    let mut rank: u64 = 0;
-    for mask in 0..roles {
-        if mask.count_ones() == roles.count_ones() {
-            rank += 1;
-        }
-    }
-    rank
+    (0..roles)
+        .filter(|mask| mask.count_ones() == roles.count_ones())
+        .count() as u64
 }
 
 // How the cell of the `size` participants from `start` on is split, and the number of its letters.

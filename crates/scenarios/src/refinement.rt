@@ -21,12 +21,7 @@ fn last_above_one(parts: [usize; 5], len: usize) -> Option<usize>
     requires { len ≤ 5 }
     ensures { LastAbove (take len parts) result }
 {
-    for i in (0..len).rev() {
-        if parts[i] > 1 {
-            return Some(i);
-        }
-    }
-    None
+    parts[..len].iter().rposition(|part| *part > 1)
 }
 
 // The next composition after the first `len` parts. The last part above 1 gives one member to the part before it, and
