@@ -46,18 +46,6 @@ fn apply_role(round: RoundScenario, start: usize, len: usize, role: Role) -> Rou
     }
 }
 
-// The role of a leader in this placement: primary, secondary, both.
-fn placed(placement: u64) -> Role
-    requires { placement < 3 }
-    ensures { number result ≡ 3 - placement }
-{
-    match placement {
-        0 => Role::Primary,
-        1 => Role::Secondary,
-        _ => Role::Both,
-    }
-}
-
 // The round with the first `count` parts, from `start` on, each in its role.
 fn draw_parts(
     round: RoundScenario,
@@ -107,7 +95,7 @@ fn draw_cell(
         roles_from_rank(len - 1, digit / 3),
         len - 1,
     );
-    apply_role(drawn, start + size - 1, 1, placed(digit % 3))
+    apply_role(drawn, start + size - 1, 1, Role::placed(digit % 3))
 }
 
 // The round of the edge at which the walk stands, and of a number below the edge's weight. The first cell has the

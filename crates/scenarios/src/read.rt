@@ -3,6 +3,7 @@ ghost use Rattle.std.specs.Prelude.{◌≡◌, ℕ, ◌+◌, ◌-◌, ◌*◌, �
 ghost use Rattle.std.specs.List.{AllByRecursion};
 ghost use Rattle.scenarios.specs.Cells.{total};
 ghost use Rattle.scenarios.specs.Letters.{role};
+ghost use Rattle.scenarios.specs.Roles.{number};
 ghost use Rattle.scenarios.specs.Edges.{sizes_in};
 ghost use Rattle.scenarios.specs.Refinements.{sizes};
 ghost use Rattle.scenarios.specs.Readings.{spelled, Reads, MemberRead, PartsRead, RanksChoice, Placed, CellRead};
@@ -12,6 +13,7 @@ use crate::cell::CellState;
 use crate::edge::add_local_boundaries;
 use crate::mask::mask_contains;
 use crate::refinement::LocalRefinement;
+use crate::role::Role;
 use crate::round::RoundScenario;
 
 // The parts of a cell that have a role, the first `len` of them, and the mask of their roles.
@@ -37,39 +39,40 @@ pub(crate) struct RoundRank {
     pub(crate) rank: u128,
 }
 
-// The place of the role of participant `i` in the role order.
-fn role_number(round: &RoundScenario, i: usize) -> u8
-    ensures { result ≡ role round.now i }
+// The role of participant `i`.
+fn role_of(round: &RoundScenario, i: usize) -> Role
+    ensures { number result ≡ role round.now i }
 {
     match (
         mask_contains(round.primary, i),
         mask_contains(round.secondary, i),
     ) {
-        (false, false) => 0,
-        (true, true) => 1,
-        (false, true) => 2,
-        (true, false) => 3,
+        (false, false) => Role::Outside,
+        (true, true) => Role::Both,
+        (false, true) => Role::Secondary,
+        (true, false) => Role::Primary,
     }
 }
 
 // The reading with one member more. Its role is a new one above all roles so far, or the last one, whose part grows.
-fn read_member(reading: Reading, next: u8) -> Option<Reading>
+fn read_member(reading: Reading, next: Role) -> Option<Reading>
     requires whole { Reads reading (spelled reading) }
-    requires below { (next < 4) × (length (spelled reading) < 64) }
-    ensures { MemberRead (spelled reading) next result }
+    requires below { length (spelled reading) < 64 }
+    ensures { MemberRead (spelled reading) (number next) result }
 {
     let Reading {
         mut parts,
         len,
         roles,
     } = reading;
-    let above = roles >> next;
+    let place = next.place();
+    let above = roles >> place;
     if above == 0 {
         parts[len] = 1;
         return Some(Reading {
             parts,
             len: len + 1,
-            roles: roles + (1 << next),
+            roles: roles + (1 << place),
         });
     }
     if above == 1 {
@@ -90,7 +93,7 @@ fn read_parts(round: &RoundScenario, start: usize, len: usize) -> Option<Reading
         roles: 0,
     };
     for idx in start..start + len {
-        reading = read_member(reading, role_number(round, idx))?;
+        reading = read_member(reading, role_of(round, idx))?;
     }
     Some(reading)
 }
@@ -125,18 +128,14 @@ fn read_cell(
         len,
         roles,
     } = read_parts(round, start, size - 1)?;
-    let heard = role_number(round, round.leader);
-    if heard == 0 {
-        return None;
-    }
+    let placement = role_of(round, round.leader).placement()?;
     parts[len] = 1;
-    // Primary, secondary and both are the placements 0, 1 and 2 of a leader.
     Some((
         LocalRefinement {
             parts,
             len: len + 1,
         },
-        choice_rank(roles) * 3 + u64::from(3 - heard),
+        choice_rank(roles) * 3 + placement,
     ))
 }
 
