@@ -15,7 +15,6 @@ mod draw;
 mod edge;
 mod mask;
 mod mode;
-mod place;
 mod plan;
 mod query;
 mod rank;

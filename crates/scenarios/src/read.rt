@@ -4,7 +4,7 @@ ghost use Rattle.std.specs.List.{AllByRecursion};
 ghost use Rattle.scenarios.specs.Cells.{total};
 ghost use Rattle.scenarios.specs.Letters.{role};
 ghost use Rattle.scenarios.specs.Roles.{number};
-ghost use Rattle.scenarios.specs.Edges.{sizes_in};
+ghost use Rattle.scenarios.specs.Edges.{sizes_of};
 ghost use Rattle.scenarios.specs.Refinements.{sizes};
 ghost use Rattle.scenarios.specs.Readings.{spelled, Reads, MemberRead, PartsRead, RanksChoice, Placed, CellRead};
 ghost use Rattle.scenarios.specs.Readings.{tallied, FitsTally, LedRanges, CellsRead, ends_at, LeadsRange, LegalTold, RoundRead};
@@ -142,30 +142,24 @@ fn read_cell(
 // The tally with one cell more in front of the others, so its number is the lowest digit.
 fn add_cell(tally: Tally, start: usize, refinement: LocalRefinement, digit: u64, led: bool) -> Tally
     requires filled { AllByRecursion (λ p. 0 < p) (sizes refinement) }
-    requires within { (refinement.len ≤ 5) × (start + total (sizes refinement) ≤ 64) }
+    requires within { start + total (sizes refinement) ≤ 64 }
     requires some { led ≡ true → 0 < refinement.len }
     requires fits { FitsTally (tallied tally start led refinement digit) }
     ensures { result ≡ tallied tally start led refinement digit }
 {
     Tally {
         rank: tally.rank * u128::from(refinement.multiplicity(led)) + u128::from(digit),
-        marks: tally.marks + add_local_boundaries(0, start, refinement.parts, refinement.len),
+        marks: tally.marks + add_local_boundaries(0, start, refinement.sizes()),
     }
 }
 
 // The splits and the letters of all cells. The last cell is read first, since the first one has the lowest digit.
-fn read_cells(
-    round: &RoundScenario,
-    ranges: [(usize, usize); 64],
-    count: usize,
-    leader_cell: usize,
-) -> Option<Tally>
-    requires { LedRanges count leader_cell round.now.leader ranges }
-    ensures { CellsRead round.now leader_cell (sizes_in count ranges) result }
+fn read_cells(round: &RoundScenario, ranges: &[(usize, usize)], leader_cell: usize) -> Option<Tally>
+    requires { LedRanges leader_cell round.now.leader ranges.now }
+    ensures { CellsRead round.now leader_cell (sizes_of ranges.now) result }
 {
     let mut tally = Tally { rank: 0, marks: 0 };
-    for i in (0..count).rev() {
-        let (start, size) = ranges[i];
+    for (i, &(start, size)) in ranges.iter().enumerate().rev() {
         let led = i == leader_cell;
         let (refinement, digit) = read_cell(round, start, size, led)?;
         tally = add_cell(tally, start, refinement, digit, led);
@@ -174,18 +168,14 @@ fn read_cells(
 }
 
 // The range whose last member leads.
-fn leading_range(ranges: [(usize, usize); 64], count: usize, leader: usize) -> Option<usize>
-    requires few { (count ≤ 64) × (leader < 64) }
-    requires within { (k : ℕ) → k < count → ends_at ranges k ≤ 64 }
-    ensures { LeadsRange ranges count leader result }
+fn leading_range(ranges: &[(usize, usize)], leader: usize) -> Option<usize>
+    requires few { leader < 64 }
+    requires within { (k : ℕ) → k < length ranges.now → ends_at ranges.now k ≤ 64 }
+    ensures { LeadsRange ranges.now leader result }
 {
-    for i in 0..count {
-        let (start, size) = ranges[i];
-        if leader + 1 == start + size {
-            return Some(i);
-        }
-    }
-    None
+    ranges
+        .iter()
+        .position(|&(start, size)| start + size == leader + 1)
 }
 
 // Whether the mask has no bit from `n` on.
@@ -213,9 +203,10 @@ pub(crate) fn read_round(n: usize, state: CellState, round: RoundScenario) -> Op
     if !is_legal(n, &round) {
         return None;
     }
-    let (ranges, count) = state.ranges(n);
-    let leader_cell = leading_range(ranges, count, round.leader)?;
-    let Tally { rank, marks } = read_cells(&round, ranges, count, leader_cell)?;
+    let cells = state.ranges(n);
+    let ranges = cells.as_slice();
+    let leader_cell = leading_range(ranges, round.leader)?;
+    let Tally { rank, marks } = read_cells(&round, ranges, leader_cell)?;
     // No bit stands for the last participant of all.
     let next = CellState {
         boundaries: marks % (1 << (n - 1)),

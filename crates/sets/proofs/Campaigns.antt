@@ -1,5 +1,5 @@
 -- The numbers of a campaign that break no rule, its cells, and the answers that follow.
-use Rattle.std.proofs.Common.{◌≡◌, ℕ, ◌-◌, ◌<◌, ◌≤◌, Bool, true, false, cond, eqb, ltb, leb, List, [], length, get_or, take, Some, None, Option, sym, refl, ap, ◌∙◌, subst, arith}
+use Rattle.std.proofs.Common.{◌≡◌, ℕ, ◌<◌, ◌≤◌, Bool, true, false, cond, eqb, ltb, leb, List, [], length, get_or, Some, None, Option, sym, refl, ap, ◌∙◌, subst, arith}
 use Rattle.std.specs.List.{AllByRecursion}
 use Rattle.std.proofs.lemmas.List.{length-map, get_or-map}
 use Rattle.std.proofs.lemmas.Bool.{ltb-false, leb-false, le-ltb, le-leb, lt-leb}
@@ -47,18 +47,17 @@ pub record Held (n s : ℕ) (rs : List (ℕ × ℕ)) : Type 0 where
   pub small : total (sizes rs) ≤ 64
   pub placed : rs ≡ ranges_from 0 (sizes rs)
 
-pub held : (n f s : ℕ) (rs : List (ℕ × ℕ)) (len : ℕ) → faults_fault n f ≡ None → take len rs ≡ ranges_from 0 (cells n s) → Held n s (take (len - 0) rs)
-held n f s rs len e told =
+pub held : (n f s : ℕ) (rs : List (ℕ × ℕ)) → faults_fault n f ≡ None → rs ≡ ranges_from 0 (cells n s) → Held n s rs
+held n f s rs e told =
     let a = allowed n f e in
     let stand = cells_stand n s (omega arith) in
-    let is : take (len - 0) rs ≡ ranges_from 0 (cells n s) = ap (λ k. take k rs) (let z : len - 0 ≡ len = omega arith in z) ∙ told in
-    let are : sizes (take (len - 0) rs) ≡ cells n s = ap sizes is ∙ sizes_ranges 0 (cells n s) in
+    let are : sizes rs ≡ cells n s = ap sizes told ∙ sizes_ranges 0 (cells n s) in
     let whole = ap total are ∙ stand.whole in
     record {
       are = are;
       filled = subst (λ cs. AllByRecursion (λ c. 0 < c) cs) (sym are) stand.filled;
       small = omega arith;
-      placed = is ∙ ap (ranges_from 0) (sym are);
+      placed = told ∙ ap (ranges_from 0) (sym are);
     }
 
 pub sets_counted : (n f s : ℕ) (rs : List (ℕ × ℕ)) (ways : List ℕ) → faults_fault n f ≡ None → Held n s rs → Ways ways (sizes rs) → get_or ways f 0 ≡ length (sets (cells n s) f)

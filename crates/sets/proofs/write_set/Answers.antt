@@ -6,8 +6,8 @@ use Rattle.sets.proofs.write_set.Goals as goal
 
 pub ways_from-ways-requires : goal.ways_from-ways-requires
 ways_from-ways-requires c =
-    let told = c.in_ok-ranges.ensures in
-    let h = held c.args.participants c.args.faults c.args.state.boundaries c.in_ok-ranges.ranges c.in_ok-ranges.len told.0 told.1 in
+    let told = c.in_ok-cells.ensures in
+    let h = held c.args.participants c.args.faults c.args.state.boundaries c.as_slice-ranges.result.now told.0 (c.as_slice-ranges.ensures.value ∙ told.1) in
     record { filled = h.filled; small = h.small }
 
 pub returns-then-number-ways : goal.returns-then-number-ways
@@ -15,8 +15,8 @@ returns-then-number-ways c =
     let n = c.args.participants in
     let f = c.args.faults in
     let s = c.args.state.boundaries in
-    let told = c.in_ok-ranges.ensures in
-    let h = held n f s c.in_ok-ranges.ranges c.in_ok-ranges.len told.0 told.1 in
+    let told = c.in_ok-cells.ensures in
+    let h = held n f s c.as_slice-ranges.result.now told.0 (c.as_slice-ranges.ensures.value ∙ told.1) in
     let count = sets_counted n f s _ c.ways_from-ways.result told.0 h c.ways_from-ways.ensures in
     let high : length (sets (cells n s) f) ≤ c.args.number = omega arith in
     (no_such_number n f s c.args.number (length c.args.members.now) told.0 c.if-members-faults.false high, refl)
@@ -26,8 +26,8 @@ allocate_faults-requires c =
     let n = c.args.participants in
     let f = c.args.faults in
     let s = c.args.state.boundaries in
-    let told = c.in_ok-ranges.ensures in
-    let h = held n f s c.in_ok-ranges.ranges c.in_ok-ranges.len told.0 told.1 in
+    let told = c.in_ok-cells.ensures in
+    let h = held n f s c.as_slice-ranges.result.now told.0 (c.as_slice-ranges.ensures.value ∙ told.1) in
     let few = faults_few n f told.0 in
     let count = c.ways_from-ways.ensures f few in
     record { filled = h.filled; small = h.small; placed = h.placed; few = few; room = c.if-members-faults.false; numbered = omega arith }
@@ -37,8 +37,8 @@ returns c =
     let n = c.args.participants in
     let f = c.args.faults in
     let s = c.args.state.boundaries in
-    let told = c.in_ok-ranges.ensures in
-    let h = held n f s c.in_ok-ranges.ranges c.in_ok-ranges.len told.0 told.1 in
+    let told = c.in_ok-cells.ensures in
+    let h = held n f s c.as_slice-ranges.result.now told.0 (c.as_slice-ranges.ensures.value ∙ told.1) in
     let long = c.ways_from-ways.ensures f (faults_few n f told.0) in
     let count = sets_counted n f s _ c.ways_from-ways.result told.0 h c.ways_from-ways.ensures in
     let low : c.args.number < length (sets (cells n s) f) = omega arith in (
