@@ -31,9 +31,8 @@ module _ (r : RoundScenario) (start size : ℕ) (x : Reading) (d : ℕ) (long : 
   measured : x.len ≤ 4 → length (take x.len x.parts) ≡ x.len
   measured h = length-take-le x.len x.parts (omega arith)
 
-  pub cell_follows : Reads x (roles_along r start size) → Placed false start size r.leader → SpellsCell false size (letters_along r start size) (record { parts = x.parts; len = x.len }) d
-  cell_follows reads apart = record {
-    short = omega (arith, reads.few);
+  pub cell_follows : (few : x.len ≤ 5) → Reads x (roles_along r start size) → Placed false start size r.leader → SpellsCell false size (letters_along r start size) (record { parts = x.parts; len = x.len; few = few }) d
+  cell_follows few reads apart = record {
     split = record { filled = reads.filled; whole = whole; few = omega (arith, n, reads.few); alone = λ e. absurd (false≢true e) };
     below = rw (n, ← reads.even) (omega (arith, rank.0));
     word = ap (λ k. spell (take x.len x.parts) (subset k d)) (n ∙ sym reads.even) ∙ ap (spell (take x.len x.parts)) rank.1 ∙ reads.spells ∙ sym (letters_follow r start size apart);
@@ -45,10 +44,9 @@ module _ (r : RoundScenario) (start size : ℕ) (x : Reading) (d : ℕ) (long : 
       whole : total (take x.len x.parts) ≡ size
       whole = sym (length_spell (take x.len x.parts) (roles_in x.roles) (measured reads.few ∙ sym reads.even)) ∙ ap length reads.spells ∙ length-map-range_with_len (role r) start size
 
-  pub cell_leads : (h : ℕ) → 0 < size → Reads x (roles_along r start (size - 1)) → Placed true start size r.leader → h ≡ role r r.leader → (h ≡ 0 → ⊥)
-      → SpellsCell true size (letters_along r start size) (record { parts = set x.parts x.len 1; len = x.len + 1 }) (d * 3 + (3 - h))
-  cell_leads h some reads placed heard loud = record {
-    short = omega (arith, reads.few);
+  pub cell_leads : (few : x.len + 1 ≤ 5) (h : ℕ) → 0 < size → Reads x (roles_along r start (size - 1)) → Placed true start size r.leader → h ≡ role r r.leader → (h ≡ 0 → ⊥)
+      → SpellsCell true size (letters_along r start size) (record { parts = set x.parts x.len 1; len = x.len + 1; few = few }) (d * 3 + (3 - h))
+  cell_leads few h some reads placed heard loud = record {
     split = record { filled = rw front (All-append (λ p. 0 < p) ps (1 ∷ []) reads.filled (omega arith, tt)); whole = rw front whole; few = rw front (omega (arith, n, reads.few)); alone = λ e. rw front (get_or_push ps 1 0 (length (ps ++ (1 ∷ [])) - 1) (omega (arith, length_push ps 1))) };
     below = rw (front, n, ← reads.even) (omega (arith, rank.0, loud));
     word = rw front word;
@@ -106,14 +104,14 @@ rank_small m d h = omega (arith, h.0, choose_most (length (roles_in m)))
 
 -- the same for a cell whose leader is said by a test
 
-pub cell_follows_at : (led : Bool) (r : RoundScenario) (start size : ℕ) (x : Reading) (d : ℕ) → led ≡ false → Placed led start size r.leader → length x.parts ≡ 5 → Reads x (roles_along r start size) → RanksChoice x.roles d
-    → SpellsCell led size (letters_along r start size) (record { parts = x.parts; len = x.len }) d
-cell_follows_at true r start size x d e placed long reads rank = absurd (true≢false e)
-cell_follows_at false r start size x d e placed long reads rank = cell_follows r start size x d long rank reads placed
+pub cell_follows_at : (led : Bool) (r : RoundScenario) (start size : ℕ) (x : Reading) (d : ℕ) → led ≡ false → Placed led start size r.leader → length x.parts ≡ 5 → (few : x.len ≤ 5) → Reads x (roles_along r start size) → RanksChoice x.roles d
+    → SpellsCell led size (letters_along r start size) (record { parts = x.parts; len = x.len; few = few }) d
+cell_follows_at true r start size x d e placed long few reads rank = absurd (true≢false e)
+cell_follows_at false r start size x d e placed long few reads rank = cell_follows r start size x d long rank few reads placed
 
-pub cell_leads_at : (led : Bool) (r : RoundScenario) (start size : ℕ) (x : Reading) (d h k : ℕ) → led ≡ true → Placed led start size r.leader → 0 < size → length x.parts ≡ 5 → Reads x (roles_along r start (size - 1)) → RanksChoice x.roles d
+pub cell_leads_at : (led : Bool) (r : RoundScenario) (start size : ℕ) (x : Reading) (d h k : ℕ) → led ≡ true → Placed led start size r.leader → 0 < size → length x.parts ≡ 5 → (few : x.len + 1 ≤ 5) → Reads x (roles_along r start (size - 1)) → RanksChoice x.roles d
     → h ≡ role r r.leader → (h ≡ 0 → ⊥) → k ≡ 3 - h
-    → SpellsCell led size (letters_along r start size) (record { parts = set x.parts x.len 1; len = x.len + 1 }) (d * 3 + k)
-cell_leads_at false r start size x d h k e placed some long reads rank heard loud q = absurd (false≢true e)
-cell_leads_at true r start size x d h k e placed some long reads rank heard loud q =
-    subst (λ j. SpellsCell true size (letters_along r start size) (record { parts = set x.parts x.len 1; len = x.len + 1 }) (d * 3 + j)) (sym q) (cell_leads r start size x d long rank h some reads placed heard loud)
+    → SpellsCell led size (letters_along r start size) (record { parts = set x.parts x.len 1; len = x.len + 1; few = few }) (d * 3 + k)
+cell_leads_at false r start size x d h k e placed some long few reads rank heard loud q = absurd (false≢true e)
+cell_leads_at true r start size x d h k e placed some long few reads rank heard loud q =
+    subst (λ j. SpellsCell true size (letters_along r start size) (record { parts = set x.parts x.len 1; len = x.len + 1; few = few }) (d * 3 + j)) (sym q) (cell_leads r start size x d long rank few h some reads placed heard loud)

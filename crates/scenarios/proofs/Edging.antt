@@ -6,6 +6,7 @@ use Rattle.std.proofs.lemmas.Nat.{and_mask, one_shl}
 use Rattle.std.proofs.lemmas.List.{take_more, take_all, flat_map_more}
 use Rattle.std.proofs.ByRecursion.{All-append}
 use Rattle.scenarios.specs.declared.edge.Edges.{Edges}
+use Rattle.scenarios.specs.declared.edge.SplitCell.{SplitCell}
 use Rattle.scenarios.specs.Cells.{total, ends, boundaries}
 use Rattle.scenarios.specs.Turns.{ways, weight_from, weight, after}
 use Rattle.scenarios.specs.Refinements.{sizes}
@@ -14,7 +15,7 @@ use Rattle.scenarios.proofs.Parting.{total_append}
 use Rattle.scenarios.proofs.States.{ends_append, ends_below}
 use Rattle.scenarios.proofs.Ending.{total_more}
 use Rattle.scenarios.proofs.Weighing.{weight_more, weight_front, weight_small}
-use Rattle.scenarios.proofs.Drawing.{split_of, split_at, fill_at, length_cells, length_fill, ways_at}
+use Rattle.scenarios.proofs.Drawing.{starts_at, split_at, fill_at, length_cells, length_fill, ways_at}
 
 -- the parts of the first i cells
 abbrev pub front : Edges → ℕ → List ℕ
@@ -41,37 +42,42 @@ module _ (e : Edges) (w : Walking e) (i mask multiplicity : ℕ) (s : Summed e i
       let h : mask < 2 ^ total (front e i) = subst (λ m. m < 2 ^ total (front e i)) (sym s.ended) b in
       subst (λ k. mask < 2 ^ k) s.whole h
 
-  module _ (h : i < e.cells) where
-    grows : front e (i + 1) ≡ front e i ++ sizes (split_of e i)
-    grows = front_more (turn_at e).fill i (omega (arith, length_fill e w)) ∙ ap (λ ps. front e i ++ ps) (fill_at e w i h)
+  module _ (x : SplitCell) (here : x ≡ get_or e.cells.items i x) (h : i < length e.cells.items) where
+    grows : front e (i + 1) ≡ front e i ++ sizes x.split
+    grows = front_more (turn_at e).fill i (omega (arith, length_fill e w)) ∙ ap (λ ps. front e i ++ ps) (fill_at e w i x here h)
 
-    pub summed_more : (mask' multiplicity' : ℕ) → mask' ≡ mask + 2 ^ total (take i (cells_at e)) * ends (sizes (split_of e i)) → multiplicity' ≡ multiplicity * ways_at e i → Summed e (i + 1) mask' multiplicity'
+    pub below_here : mask < 2 ^ x.start
+    below_here = subst (λ k. mask < 2 ^ k) (sym (starts_at e w i x here h)) summed_below
+
+    pub summed_more : (mask' multiplicity' : ℕ) → mask' ≡ mask + 2 ^ x.start * ends (sizes x.split) → multiplicity' ≡ multiplicity * ways_at e i x → Summed e (i + 1) mask' multiplicity'
     summed_more mask' multiplicity' m k =
-        let split = split_at e w i h in
+        let ps : List ℕ = sizes x.split in
+        let split = split_at e w i x here h in
         record {
           whole =
-              ap total grows ∙ total_append (front e i) (sizes (split_of e i)) ∙ ap (λ x. x + total (sizes (split_of e i))) s.whole
+              ap total grows ∙ total_append (front e i) ps ∙ ap (λ x. x + total ps) s.whole
               ∙ ap (λ x. total (take i (cells_at e)) + x) split.whole ∙ sym (total_more (cells_at e) i (omega (arith, length_cells e w)));
-          filled = subst (AllByRecursion (λ p. 0 < p)) (sym grows) (All-append (λ p. 0 < p) (front e i) (sizes (split_of e i)) s.filled split.filled);
+          filled = subst (AllByRecursion (λ p. 0 < p)) (sym grows) (All-append (λ p. 0 < p) (front e i) ps s.filled split.filled);
           ended =
-              m ∙ ap (λ x. x + 2 ^ total (take i (cells_at e)) * ends (sizes (split_of e i))) s.ended
-              ∙ ap (λ x. ends (front e i) + 2 ^ x * ends (sizes (split_of e i))) (sym s.whole)
-              ∙ sym (ap ends grows ∙ ends_append (front e i) (sizes (split_of e i)));
+              m ∙ ap (λ x. mask + 2 ^ x * ends ps) (starts_at e w i x here h)
+              ∙ ap (λ x. x + 2 ^ total (take i (cells_at e)) * ends ps) s.ended
+              ∙ ap (λ x. ends (front e i) + 2 ^ x * ends ps) (sym s.whole)
+              ∙ sym (ap ends grows ∙ ends_append (front e i) ps);
           weighs =
-              k ∙ ap (λ x. x * ways_at e i) s.weighs
-              ∙ ap (λ ps. weight_from e.leader 0 (take i (turn_at e).fill) * ways (eqb i e.leader) ps) (sym (fill_at e w i h))
+              k ∙ ap (λ m. m * ways_at e i x) s.weighs
+              ∙ ap (λ qs. weight_from e.leader 0 (take i (turn_at e).fill) * ways (eqb i e.leader) qs) (sym (fill_at e w i x here h))
               ∙ sym (weight_more e.leader (turn_at e).fill i (omega (arith, length_fill e w)));
         }
 
 -- the product of the first cells fits
-pub summed_fits : (e : Edges) (w : Walking e) (i mask multiplicity : ℕ) → Summed e i mask multiplicity → i ≤ e.cells → multiplicity < 2 ^ 128
+pub summed_fits : (e : Edges) (w : Walking e) (i mask multiplicity : ℕ) → Summed e i mask multiplicity → i ≤ length e.cells.items → multiplicity < 2 ^ 128
 summed_fits e w i mask multiplicity s h =
     let f = weight_front (cells_at e) (turn_at e) i w.fits (omega (arith, length_fill e w)) in
     let b = weight_small e.n (cells_at e) (turn_at e) w.within (let t = w.whole.whole in omega arith) w.whole.filled w.fits in
     let k = s.weighs in
     omega arith
 
-module _ (e : Edges) (w : Walking e) (i mask multiplicity : ℕ) (s : Summed e i mask multiplicity) (h : e.cells ≤ i) where
+module _ (e : Edges) (w : Walking e) (i mask multiplicity : ℕ) (s : Summed e i mask multiplicity) (h : length e.cells.items ≤ i) where
   whole_fill : take i (turn_at e).fill ≡ (turn_at e).fill
   whole_fill = take_all i (turn_at e).fill (omega (arith, length_fill e w))
 

@@ -1,8 +1,8 @@
 -- The last participants of parts, set bit by bit.
-use Rattle.std.proofs.Common.{◌≡◌, ℕ, ◌+◌, ◌-◌, ◌*◌, ◌^◌, ◌<◌, ◌≤◌, List, [], ◌∷◌, ◌++◌, length, get_or, take, sym, ap, ◌∙◌, subst, mul-add, arith, pow_mono}
+use Rattle.std.proofs.Common.{◌≡◌, ℕ, ◌+◌, ◌-◌, ◌*◌, ◌^◌, ◌<◌, ◌≤◌, List, [], ◌∷◌, ◌++◌, length, get_or, take, sym, ap, ◌∙◌, mul-add, arith, pow_mono}
 use Rattle.std.specs.List.{AllByRecursion}
 use Rattle.std.proofs.lemmas.Nat.{pow-add}
-use Rattle.std.proofs.lemmas.List.{take_more, take-take, get_or-take, length-take-le}
+use Rattle.std.proofs.lemmas.List.{take_more}
 use Rattle.std.proofs.ByRecursion.{All-get_or}
 use Rattle.scenarios.specs.Cells.{total, ends}
 use Rattle.scenarios.proofs.Parting.{total_append}
@@ -32,19 +32,16 @@ pub record EndStep (mask start : ℕ) (parts : List ℕ) (j end out : ℕ) : Typ
   pub more : out + (2 ^ 1 - 1) * 2 ^ (end + get_or parts j 0 - 1) ≡ mask + 2 ^ start * ends (take (j + 1) parts)
   pub still : out + (2 ^ 1 - 1) * 2 ^ (end + get_or parts j 0 - 1) < 2 ^ (end + get_or parts j 0)
 
-pub end_step : (mask start : ℕ) (parts : List ℕ) (len j end out : ℕ) → len ≤ length parts → j < len → AllByRecursion (λ p. 0 < p) (take len parts) → start + total (take len parts) ≤ 64
+pub end_step : (mask start : ℕ) (parts : List ℕ) (j end out : ℕ) → j < length parts → AllByRecursion (λ p. 0 < p) parts → start + total parts ≤ 64
     → end ≡ start + total (take j parts) → out ≡ mask + 2 ^ start * ends (take j parts) → out < 2 ^ end → EndStep mask start parts j end out
-end_step mask start parts len j end out long h filled fits e o b =
+end_step mask start parts j end out h filled fits e o b =
     let p : ℕ = get_or parts j 0 in
-    let long' = length-take-le len parts long in
-    let p0 : 0 < p = subst (λ x. 0 < x) (get_or-take len parts j 0 h) (All-get_or (λ x. 0 < x) (take len parts) j 0 (omega arith) filled) in
-    let t = total_more parts j (omega arith) in
-    let tt' = total_take (j + 1) (take len parts) in
-    let le : j + 1 ≤ len = omega arith in
-    let te = ap total (take-take (j + 1) len parts le) in
+    let p0 : 0 < p = All-get_or (λ x. 0 < x) parts j 0 h filled in
+    let t = total_more parts j h in
+    let tt' = total_take (j + 1) parts in
     let m : end ≤ end + p - 1 = omega arith in
     let pm : 2 ^ end ≤ 2 ^ (end + p - 1) = pow_mono m in
-    let ep : ends (take (j + 1) parts) ≡ ends (take j parts ++ (p ∷ [])) = ap ends (take_more parts j 0 (omega arith)) in
+    let ep : ends (take (j + 1) parts) ≡ ends (take j parts ++ (p ∷ [])) = ap ends (take_more parts j 0 h) in
     let push = ends_push start (take j parts) p p0 in
     let w : 2 ^ start * ends (take (j + 1) parts) ≡ 2 ^ start * ends (take j parts) + 2 ^ (end + p - 1) = ap (λ x. 2 ^ start * x) ep ∙ push ∙ ap (λ x. 2 ^ start * ends (take j parts) + 2 ^ (x + p - 1)) (sym e) in
     let one : end + p - 1 + 1 ≡ end + p = omega arith in

@@ -1,16 +1,16 @@
 -- The step to the next splits of all cells, from the last cell back to the first.
 use Rattle.std.proofs.Common.{◌≡◌, ℕ, zero, suc, ◌+◌, ◌-◌, ◌<◌, ◌≤◌, eqb, List, [], ◌∷◌, ◌++◌, map, length, get_or, take, drop, set, Some, None, Option, sym, refl, ap, ◌∙◌, subst, arith}
 use Rattle.std.specs.List.{AllByRecursion}
-use Rattle.std.proofs.lemmas.List.{take_more_set, map_push, length-map, drop_all, append-nil, take_all, drop_more, take_more, append_assoc, set_at, length-take-le, get_or_at, map-set, get_or-map, get_or-take}
-use Rattle.std.proofs.ByRecursion.{All-set, All-get_or, All-push}
+use Rattle.std.proofs.lemmas.List.{take_more_set, map_push, length-map, drop_all, append-nil, take_all, drop_more, take_more, append_assoc, set_at, length-take-le, get_or_at, map-set, get_or-map}
+use Rattle.std.proofs.ByRecursion.{All-get_or}
 use Rattle.scenarios.specs.declared.refinement.LocalRefinement.{LocalRefinement}
+use Rattle.scenarios.specs.declared.edge.SplitCell.{SplitCell}
 use Rattle.scenarios.specs.Steps.{next_split, next_fill, first_fill, first_split}
 use Rattle.scenarios.specs.Fits.{Split, Fills}
 use Rattle.scenarios.specs.Refinements.{sizes}
-use Rattle.scenarios.specs.Edges.{fill_of, sizes_in}
+use Rattle.scenarios.specs.Edges.{sizes_of, ranges_in, sizes_in, fill_in}
 use Rattle.scenarios.proofs.Composing.{through}
 use Rattle.scenarios.proofs.Walks.{begun, next_fill_is}
-use Rattle.scenarios.proofs.Placing.{take_set_in}
 
 pub fills_at : (l i k : ℕ) (cs : List ℕ) (f : List (List ℕ)) → Fills l i cs f → k < length cs → Split (eqb (i + k) l) (get_or cs k 0) (get_or f k [])
 fills_at l i k [] f h b = absurd (omega arith)
@@ -49,13 +49,6 @@ module _ (l : ℕ) where
   pub first_fill_more : (k : ℕ) (cs : List ℕ) → k < length cs → first_fill l k (drop k cs) ≡ first_split (eqb k l) (get_or cs k 0) ∷ first_fill l (k + 1) (drop (k + 1) cs)
   first_fill_more k cs h = ap (first_fill l k) (drop_more cs k 0 h)
 
--- the fill after one write
-pub fill_set : (k : ℕ) (rs : List LocalRefinement) (i : ℕ) (r : LocalRefinement) → fill_of k (set rs i r) ≡ set (fill_of k rs) i (sizes r)
-fill_set k rs i r = ap (map sizes) (take_set_in k rs i r) ∙ map-set sizes (take k rs) i r
-
-pub fill_at : (k : ℕ) (rs : List LocalRefinement) (i : ℕ) (d : LocalRefinement) → i < k → k ≤ length rs → get_or (fill_of k rs) i [] ≡ sizes (get_or rs i d)
-fill_at k rs i d h b = get_or-map sizes (take k rs) i d [] (rw (length-take-le k rs b) h) ∙ ap sizes (get_or-take k rs i d h)
-
 -- a front of f with something behind, read and written at its end
 pub front_at : (f g : List (List ℕ)) (i : ℕ) → i < length f → get_or (take (i + 1) f ++ g) i [] ≡ get_or f i []
 front_at f g i h =
@@ -69,107 +62,45 @@ front_set f g i q h =
     ∙ ap (λ x. set x i q) (append_assoc (take i f) (get_or f i [] ∷ []) g)
     ∙ set_at (take i f) (get_or f i []) g q i (length-take-le i f (omega arith))
 
--- the walk back over the cells, as the code takes it
+-- the walk back over the cells, as the code takes it: the cells from i on have no next splits, and stand at their first again
+pub record Back (l : ℕ) (cs : List ℕ) (f g : List (List ℕ)) (i : ℕ) : Type 0 where
+  pub none : next_fill l i (drop i cs) (drop i f) ≡ None
+  pub again : g ≡ take i f ++ first_fill l i (drop i cs)
 
-abbrev pub no_split : LocalRefinement
-no_split = record { parts = []; len = 0 }
+module _ (l : ℕ) (cs : List ℕ) (f g : List (List ℕ)) (i : ℕ) (even : length f ≡ length cs) (h : i < length cs) (back : Back l cs f g (i + 1)) where
+  here_is : get_or f i [] ≡ get_or g i []
+  here_is = sym (front_at f (first_fill l (i + 1) (drop (i + 1) cs)) i (omega arith)) ∙ ap (λ x. get_or x i []) (sym back.again)
 
-abbrev pub Short : ℕ → List LocalRefinement → Type 0
-Short k rs = AllByRecursion (λ r. r.len ≤ 5) (take k rs)
-
--- the cells from i on have no next splits, and stand at their first again
-pub record Back (l cells : ℕ) (cs : List ℕ) (old rs : List LocalRefinement) (i : ℕ) : Type 0 where
-  pub none : next_fill l i (drop i cs) (drop i (fill_of cells old)) ≡ None
-  pub again : fill_of cells rs ≡ take i (fill_of cells old) ++ first_fill l i (drop i cs)
-  pub short : Short cells rs
-
-pub size_at : (cells : ℕ) (ranges : List (ℕ × ℕ)) (i : ℕ) → i < cells → cells ≤ length ranges → get_or (sizes_in cells ranges) i 0 ≡ (get_or ranges i (0, 0)).1
-size_at cells ranges i h b = get_or-map (λ r. r.1) (take cells ranges) i (0, 0) 0 (rw (length-take-le cells ranges b) h) ∙ ap (λ r. r.1) (get_or-take cells ranges i (0, 0) h)
-
-pub sizes_long : (cells : ℕ) (ranges : List (ℕ × ℕ)) → cells ≤ length ranges → length (sizes_in cells ranges) ≡ cells
-sizes_long cells ranges b = length-map (take cells ranges) (λ r. r.1) ∙ length-take-le cells ranges b
-
-pub fill_long : (cells : ℕ) (rs : List LocalRefinement) → cells ≤ length rs → length (fill_of cells rs) ≡ cells
-fill_long cells rs b = length-map (take cells rs) sizes ∙ length-take-le cells rs b
-
-pub short_set : (cells : ℕ) (rs : List LocalRefinement) (i : ℕ) (r : LocalRefinement) → Short cells rs → r.len ≤ 5 → Short cells (set rs i r)
-short_set cells rs i r s h = subst (AllByRecursion (λ x. x.len ≤ 5)) (sym (take_set_in cells rs i r)) (All-set (λ x. x.len ≤ 5) (take cells rs) i r h s)
-
-module _ (l cells : ℕ) (ranges : List (ℕ × ℕ)) (old rs : List LocalRefinement) (i : ℕ)
-    (room : cells ≤ length ranges) (room' : cells ≤ length old) (room'' : cells ≤ length rs) (h : i < cells)
-    (back : Back l cells (sizes_in cells ranges) old rs (i + 1)) where
-  here_is : get_or (fill_of cells old) i [] ≡ sizes (get_or rs i no_split)
-  here_is =
-      let b = fill_long cells old room' in
-      sym (front_at (fill_of cells old) (first_fill l (i + 1) (drop (i + 1) (sizes_in cells ranges))) i (omega arith))
-      ∙ ap (λ f. get_or f i []) (sym back.again)
-      ∙ fill_at cells rs i no_split h room''
-
-  pub back_split : Fills l 0 (sizes_in cells ranges) (fill_of cells old) → Split (eqb i l) (get_or ranges i (0, 0)).1 (sizes (get_or rs i no_split))
+  pub back_split : Fills l 0 cs f → Split (eqb i l) (get_or cs i 0) (get_or g i [])
   back_split filled =
-      let b = sizes_long cells ranges room in
-      let s = fills_at l 0 i (sizes_in cells ranges) (fill_of cells old) filled (omega arith) in
+      let s = fills_at l 0 i cs f filled h in
       let z : 0 + i ≡ i = omega arith in
-      subst (λ k. Split (eqb k l) (get_or ranges i (0, 0)).1 (sizes (get_or rs i no_split))) z
-      (subst (λ c. Split (eqb (0 + i) l) c (sizes (get_or rs i no_split))) (size_at cells ranges i h room)
-      (subst (Split (eqb (0 + i) l) (get_or (sizes_in cells ranges) i 0)) here_is s))
+      subst (λ k. Split (eqb k l) (get_or cs i 0) (get_or g i [])) z (subst (Split (eqb (0 + i) l) (get_or cs i 0)) here_is s)
 
-  pub back_some : (r : LocalRefinement) → next_split (eqb i l) (sizes (get_or rs i no_split)) ≡ Some (sizes r)
-      → next_fill l 0 (sizes_in cells ranges) (fill_of cells old) ≡ Some (fill_of cells (set rs i r))
+  pub back_some : (r : List ℕ) → next_split (eqb i l) (get_or g i []) ≡ Some r → next_fill l 0 cs f ≡ Some (set g i r)
   back_some r s =
-      let b = fill_long cells old room' in
-      let b' = sizes_long cells ranges room in
-      let cs : List ℕ = sizes_in cells ranges in
-      let f : List (List ℕ) = fill_of cells old in
-      let n = next_fill_here l i cs f (omega arith) (omega arith) back.none (sizes r) (ap (next_split (eqb i l)) here_is ∙ s) in
+      let n = next_fill_here l i cs f h (omega arith) back.none r (ap (next_split (eqb i l)) here_is ∙ s) in
       let z : 0 + i ≡ i = omega arith in
-      let u = next_fill_under l 0 i cs f (sizes r ∷ first_fill l (i + 1) (drop (i + 1) cs)) (omega arith) (omega arith) (ap (λ k. next_fill l k (drop i cs) (drop i f)) z ∙ n) in
-      let w = fill_set cells rs i r ∙ ap (λ g. set g i (sizes r)) back.again ∙ front_set f (first_fill l (i + 1) (drop (i + 1) cs)) i (sizes r) (omega arith) in
+      let u = next_fill_under l 0 i cs f (r ∷ first_fill l (i + 1) (drop (i + 1) cs)) even (omega arith) (ap (λ k. next_fill l k (drop i cs) (drop i f)) z ∙ n) in
+      let w = ap (λ x. set x i r) back.again ∙ front_set f (first_fill l (i + 1) (drop (i + 1) cs)) i r (omega arith) in
       u ∙ ap Some (sym w)
 
-  pub back_none : (r : LocalRefinement) → next_split (eqb i l) (sizes (get_or rs i no_split)) ≡ None → sizes r ≡ first_split (eqb i l) (get_or ranges i (0, 0)).1 → r.len ≤ 5
-      → Back l cells (sizes_in cells ranges) old (set rs i r) i
-  back_none r s e short =
-      let b = fill_long cells old room' in
-      let b' = sizes_long cells ranges room in
-      let cs : List ℕ = sizes_in cells ranges in
-      let f : List (List ℕ) = fill_of cells old in
-      record {
-        none = next_fill_none l i cs f (omega arith) (omega arith) back.none (ap (next_split (eqb i l)) here_is ∙ s);
-        again = fill_set cells rs i r ∙ ap (λ g. set g i (sizes r)) back.again ∙ front_set f (first_fill l (i + 1) (drop (i + 1) cs)) i (sizes r) (omega arith)
-            ∙ ap (λ q. take i f ++ (q ∷ first_fill l (i + 1) (drop (i + 1) cs))) (e ∙ ap (first_split (eqb i l)) (sym (size_at cells ranges i h room)))
-            ∙ ap (λ g. take i f ++ g) (sym (first_fill_more l i cs (omega arith)));
-        short = short_set cells rs i r back.short short;
-      }
+  pub back_none : (r : List ℕ) → next_split (eqb i l) (get_or g i []) ≡ None → r ≡ first_split (eqb i l) (get_or cs i 0) → Back l cs f (set g i r) i
+  back_none r s e = record {
+    none = next_fill_none l i cs f h (omega arith) back.none (ap (next_split (eqb i l)) here_is ∙ s);
+    again =
+        ap (λ x. set x i r) back.again ∙ front_set f (first_fill l (i + 1) (drop (i + 1) cs)) i r (omega arith)
+        ∙ ap (λ q. take i f ++ (q ∷ first_fill l (i + 1) (drop (i + 1) cs))) e
+        ∙ ap (λ x. take i f ++ x) (sym (first_fill_more l i cs h));
+  }
 
-pub back_start : (l cells : ℕ) (ranges : List (ℕ × ℕ)) (rs : List LocalRefinement) → cells ≤ length ranges → cells ≤ length rs → Short cells rs
-    → Back l cells (sizes_in cells ranges) rs rs cells
-back_start l cells ranges rs room room' s =
-    let b = fill_long cells rs room' in
-    let b' = sizes_long cells ranges room in
-    let d : drop cells (sizes_in cells ranges) ≡ [] = drop_all cells (sizes_in cells ranges) (omega arith) in
+pub back_start : (l : ℕ) (cs : List ℕ) (f : List (List ℕ)) → length f ≡ length cs → Back l cs f f (length cs)
+back_start l cs f even =
+    let d : drop (length cs) cs ≡ [] = drop_all (length cs) cs (omega arith) in
     record {
-      none = ap (λ xs. next_fill l cells xs (drop cells (fill_of cells rs))) d;
-      again = sym (ap (λ xs. take cells (fill_of cells rs) ++ first_fill l cells xs) d ∙ append-nil (take cells (fill_of cells rs)) ∙ take_all cells (fill_of cells rs) (omega arith));
-      short = s;
+      none = ap (λ xs. next_fill l (length cs) xs (drop (length cs) f)) d;
+      again = sym (ap (λ xs. take (length cs) f ++ first_fill l (length cs) xs) d ∙ append-nil (take (length cs) f) ∙ take_all (length cs) f (omega arith));
     }
-
-pub back_up : (l cells : ℕ) (cs : List ℕ) (old rs : List LocalRefinement) (i : ℕ) → 0 < i → Back l cells cs old rs i → Back l cells cs old rs (i - 1 + 1)
-back_up l cells cs old rs i h b = subst (Back l cells cs old rs) (let e : i ≡ i - 1 + 1 = omega arith in e) b
-
-pub back_all : (l cells : ℕ) (cs : List ℕ) (old rs : List LocalRefinement) (i : ℕ) → i ≤ 0 → Back l cells cs old rs i → next_fill l 0 cs (fill_of cells old) ≡ None
-back_all l cells cs old rs i h b = subst (λ k. next_fill l k (drop k cs) (drop k (fill_of cells old)) ≡ None) (let e : i ≡ 0 = omega arith in e) b.none
-
-pub size_small : (cells : ℕ) (ranges : List (ℕ × ℕ)) (i : ℕ) → i < cells → cells ≤ length ranges → AllByRecursion (λ c. (0 < c) × (c ≤ 64)) (sizes_in cells ranges)
-    → (0 < (get_or ranges i (0, 0)).1) × ((get_or ranges i (0, 0)).1 ≤ 64)
-size_small cells ranges i h b s =
-    let l = sizes_long cells ranges b in
-    subst (λ c. (0 < c) × (c ≤ 64)) (size_at cells ranges i h b) (All-get_or (λ c. (0 < c) × (c ≤ 64)) (sizes_in cells ranges) i 0 (omega arith) s)
-
-pub short_at : (cells : ℕ) (rs : List LocalRefinement) (i : ℕ) → i < cells → cells ≤ length rs → Short cells rs → (get_or rs i no_split).len ≤ 5
-short_at cells rs i h b s =
-    let l = length-take-le cells rs b in
-    subst (λ r. r.len ≤ 5) (get_or-take cells rs i no_split h) (All-get_or (λ r. r.len ≤ 5) (take cells rs) i no_split (omega arith) s)
 
 -- setting each cell to its first split
 
@@ -182,29 +113,161 @@ first_fill_at l i k [] h = absurd (omega arith)
 first_fill_at l i zero (c ∷ cs) h = ap (λ j. first_split (eqb j l) c) (let e : i ≡ i + 0 = omega arith in e)
 first_fill_at l i (suc k) (c ∷ cs) h = first_fill_at l (i + 1) k cs (omega arith) ∙ ap (λ j. first_split (eqb j l) (get_or cs k 0)) (let e : i + 1 + k ≡ i + suc k = omega arith in e)
 
-module _ (l cells : ℕ) (ranges : List (ℕ × ℕ)) (rs : List LocalRefinement) (i : ℕ) (r : LocalRefinement)
-    (room : cells ≤ length ranges) (h : i < cells) (h' : i < length rs) where
-  pub first_more : fill_of i rs ≡ take i (first_fill l 0 (sizes_in cells ranges)) → sizes r ≡ first_split (eqb i l) (get_or ranges i (0, 0)).1
-      → fill_of (i + 1) (set rs i r) ≡ take (i + 1) (first_fill l 0 (sizes_in cells ranges))
-  first_more e s =
-      let F : List (List ℕ) = first_fill l 0 (sizes_in cells ranges) in
-      let n = first_fill_long l 0 (sizes_in cells ranges) in
-      let m = sizes_long cells ranges room in
-      let a = first_fill_at l 0 i (sizes_in cells ranges) (omega arith) in
-      let z : 0 + i ≡ i = omega arith in
-      let q : sizes r ≡ get_or F i [] = s ∙ ap (first_split (eqb i l)) (sym (size_at cells ranges i h room)) ∙ ap (λ j. first_split (eqb j l) (get_or (sizes_in cells ranges) i 0)) (sym z) ∙ sym a in
-      ap (map sizes) (take_more_set rs i r h')
-      ∙ map_push sizes (take i rs) r
-      ∙ ap (λ f. f ++ (sizes r ∷ [])) e
-      ∙ ap (λ x. take i F ++ (x ∷ [])) q
-      ∙ sym (take_more F i [] (omega arith))
+-- cells, and the one at a place
 
-  pub first_short : AllByRecursion (λ x. x.len ≤ 5) (take i rs) → r.len ≤ 5 → AllByRecursion (λ x. x.len ≤ 5) (take (i + 1) (set rs i r))
-  first_short s b = subst (AllByRecursion (λ x. x.len ≤ 5)) (sym (take_more_set rs i r h')) (All-push (λ x. x.len ≤ 5) (take i rs) r s b)
+pub ranges_long : (cs : List SplitCell) → length (ranges_in cs) ≡ length cs
+ranges_long cs = length-map {B = ℕ × ℕ} cs (λ c. (c.start, c.size))
 
-pub first_all : (l cells : ℕ) (ranges : List (ℕ × ℕ)) (rs : List LocalRefinement) (i : ℕ) → cells ≤ length ranges → i ≡ cells
-    → fill_of i rs ≡ take i (first_fill l 0 (sizes_in cells ranges)) → fill_of cells rs ≡ first_fill l 0 (sizes_in cells ranges)
-first_all l cells ranges rs i room e s =
-    let n = first_fill_long l 0 (sizes_in cells ranges) in
-    let m = sizes_long cells ranges room in
-    ap (λ k. fill_of k rs) (sym e) ∙ s ∙ take_all i (first_fill l 0 (sizes_in cells ranges)) (omega arith)
+pub cells_long : (cs : List SplitCell) → length (sizes_in cs) ≡ length cs
+cells_long cs = length-map (ranges_in cs) (λ r. r.1) ∙ ranges_long cs
+
+pub fill_long : (cs : List SplitCell) → length (fill_in cs) ≡ length cs
+fill_long cs = length-map cs (λ c. sizes c.split)
+
+set_same : {X : Type 0} (xs : List X) (i : ℕ) (d x : X) → i < length xs → x ≡ get_or xs i d → set xs i x ≡ xs
+set_same [] i d x h e = absurd (omega arith)
+set_same (y ∷ xs) zero d x h e = ap (λ z. z ∷ xs) e
+set_same (y ∷ xs) (suc i) d x h e = ap (λ l. y ∷ l) (set_same xs i d x (omega arith) e)
+
+-- a cell with another split
+abbrev pub resplit : SplitCell → LocalRefinement → SplitCell
+resplit c r = record { start = c.start; size = c.size; split = r }
+
+module _ (cs : List SplitCell) (i : ℕ) (d : SplitCell) (h : i < length cs) where
+  pub range_of : (x : ℕ × ℕ) → get_or (ranges_in cs) i x ≡ ((get_or cs i d).start, (get_or cs i d).size)
+  range_of x = get_or-map (λ c. (c.start, c.size)) cs i d x h
+
+  pub size_of : get_or (sizes_in cs) i 0 ≡ (get_or cs i d).size
+  size_of = get_or-map (λ r. r.1) (ranges_in cs) i (0, 0) 0 (omega (arith, ranges_long cs)) ∙ ap (λ (r : ℕ × ℕ). r.1) (range_of (0, 0))
+
+  pub parts_of : get_or (fill_in cs) i [] ≡ sizes (get_or cs i d).split
+  parts_of = get_or-map (λ c. sizes c.split) cs i d [] h
+
+  pub size_small : AllByRecursion (λ c. (0 < c) × (c ≤ 64)) (sizes_in cs) → (0 < (get_or cs i d).size) × ((get_or cs i d).size ≤ 64)
+  size_small s = subst (λ c. (0 < c) × (c ≤ 64)) size_of (All-get_or (λ c. (0 < c) × (c ≤ 64)) (sizes_in cs) i 0 (omega (arith, cells_long cs)) s)
+
+  module _ (r : LocalRefinement) where
+    pub ranges_set : ranges_in (set cs i (resplit (get_or cs i d) r)) ≡ ranges_in cs
+    ranges_set = map-set (λ c. (c.start, c.size)) cs i (resplit (get_or cs i d) r) ∙ set_same (ranges_in cs) i (0, 0) _ (omega (arith, ranges_long cs)) (sym (range_of (0, 0)))
+
+    pub fill_set : fill_in (set cs i (resplit (get_or cs i d) r)) ≡ set (fill_in cs) i (sizes r)
+    fill_set = map-set (λ c. sizes c.split) cs i (resplit (get_or cs i d) r)
+
+-- the walk back over cells, of which only the splits change
+pub record BackIn (l : ℕ) (old now : List SplitCell) (i : ℕ) : Type 0 where
+  pub back : Back l (sizes_in old) (fill_in old) (fill_in now) i
+  pub placed : ranges_in now ≡ ranges_in old
+
+pub back_begins : (l : ℕ) (cs : List SplitCell) → BackIn l cs cs (length cs)
+back_begins l cs = record {
+  back = subst (Back l (sizes_in cs) (fill_in cs) (fill_in cs)) (cells_long cs) (back_start l (sizes_in cs) (fill_in cs) (fill_long cs ∙ sym (cells_long cs)));
+  placed = refl;
+}
+
+pub back_ends : (l : ℕ) (old now : List SplitCell) (i : ℕ) → i ≤ 0 → BackIn l old now i → next_fill l 0 (sizes_in old) (fill_in old) ≡ None
+back_ends l old now i h b = subst (λ k. next_fill l k (drop k (sizes_in old)) (drop k (fill_in old)) ≡ None) (let e : i ≡ 0 = omega arith in e) b.back.none
+
+module _ (l : ℕ) (old now : List SplitCell) (k : ℕ) (d : SplitCell) (some : 0 < k) (h : k - 1 < length now) (b : BackIn l old now k) where
+  back : Back l (sizes_in old) (fill_in old) (fill_in now) (k - 1 + 1)
+  back = subst (Back l (sizes_in old) (fill_in old) (fill_in now)) (let e : k ≡ k - 1 + 1 = omega arith in e) b.back
+
+  same : sizes_in now ≡ sizes_in old
+  same = ap (map (λ r. r.1)) b.placed
+
+  long : length (sizes_in old) ≡ length now
+  long = ap length (sym same) ∙ cells_long now
+
+  even : length (fill_in old) ≡ length (sizes_in old)
+  even = fill_long old ∙ sym (cells_long old)
+
+  within : k - 1 < length (sizes_in old)
+  within = omega (arith, long)
+
+  size_is : get_or (sizes_in old) (k - 1) 0 ≡ (get_or now (k - 1) d).size
+  size_is = ap (λ cs. get_or cs (k - 1) 0) (sym same) ∙ size_of now (k - 1) d h
+
+  pub step_split : Fills l 0 (sizes_in old) (fill_in old) → Split (eqb (k - 1) l) (get_or now (k - 1) d).size (sizes (get_or now (k - 1) d).split)
+  step_split filled =
+      subst (λ c. Split (eqb (k - 1) l) c (sizes (get_or now (k - 1) d).split)) size_is
+      (subst (Split (eqb (k - 1) l) (get_or (sizes_in old) (k - 1) 0)) (parts_of now (k - 1) d h)
+      (back_split l (sizes_in old) (fill_in old) (fill_in now) (k - 1) even within back filled))
+
+  pub step_small : AllByRecursion (λ c. (0 < c) × (c ≤ 64)) (sizes_in old) → (0 < (get_or now (k - 1) d).size) × ((get_or now (k - 1) d).size ≤ 64)
+  step_small s = size_small now (k - 1) d h (subst (AllByRecursion (λ c. (0 < c) × (c ≤ 64))) (sym same) s)
+
+  module _ (r : LocalRefinement) where
+    pub step_some : next_split (eqb (k - 1) l) (sizes (get_or now (k - 1) d).split) ≡ Some (sizes r) → next_fill l 0 (sizes_in old) (fill_in old) ≡ Some (fill_in (set now (k - 1) (resplit (get_or now (k - 1) d) r)))
+    step_some s =
+        back_some l (sizes_in old) (fill_in old) (fill_in now) (k - 1) even within back (sizes r) (ap (next_split (eqb (k - 1) l)) (parts_of now (k - 1) d h) ∙ s)
+        ∙ ap Some (sym (fill_set now (k - 1) d h r))
+
+    pub step_placed : ranges_in (set now (k - 1) (resplit (get_or now (k - 1) d) r)) ≡ ranges_in old
+    step_placed = ranges_set now (k - 1) d h r ∙ b.placed
+
+    pub step_none : next_split (eqb (k - 1) l) (sizes (get_or now (k - 1) d).split) ≡ None → sizes r ≡ first_split (eqb (k - 1) l) (get_or now (k - 1) d).size
+        → BackIn l old (set now (k - 1) (resplit (get_or now (k - 1) d) r)) (k - 1)
+    step_none s e = record {
+      back = subst (λ g. Back l (sizes_in old) (fill_in old) g (k - 1)) (sym (fill_set now (k - 1) d h r))
+          (back_none l (sizes_in old) (fill_in old) (fill_in now) (k - 1) even within back (sizes r) (ap (next_split (eqb (k - 1) l)) (parts_of now (k - 1) d h) ∙ s) (e ∙ ap (first_split (eqb (k - 1) l)) (sym size_is)));
+      placed = step_placed;
+    }
+
+-- the first i cells stand at their first splits
+pub record FirstIn (l : ℕ) (old now : List SplitCell) (i : ℕ) : Type 0 where
+  pub first : take i (fill_in now) ≡ take i (first_fill l 0 (sizes_in old))
+  pub placed : ranges_in now ≡ ranges_in old
+
+first_next : (l : ℕ) (cs : List ℕ) (i : ℕ) (q : List ℕ) → i < length cs → q ≡ first_split (eqb i l) (get_or cs i 0) → take (i + 1) (first_fill l 0 cs) ≡ take i (first_fill l 0 cs) ++ (q ∷ [])
+first_next l cs i q h e =
+    let n = first_fill_long l 0 cs in
+    let z : 0 + i ≡ i = omega arith in
+    take_more (first_fill l 0 cs) i [] (omega arith)
+    ∙ ap (λ x. take i (first_fill l 0 cs) ++ (x ∷ [])) (first_fill_at l 0 i cs h ∙ ap (λ j. first_split (eqb j l) (get_or cs i 0)) z ∙ sym e)
+
+pub first_begins : (l : ℕ) (cs : List SplitCell) → FirstIn l cs cs 0
+first_begins l cs = record { first = refl; placed = refl }
+
+module _ (l : ℕ) (old now : List SplitCell) (i : ℕ) (d : SplitCell) (h : i < length now) (b : FirstIn l old now i) where
+  same_sizes : sizes_in now ≡ sizes_in old
+  same_sizes = ap (map (λ r. r.1)) b.placed
+
+  pub first_small : AllByRecursion (λ c. (0 < c) × (c ≤ 64)) (sizes_in old) → 0 < (get_or now i d).size
+  first_small s = (size_small now i d h (subst (AllByRecursion (λ c. (0 < c) × (c ≤ 64))) (sym same_sizes) s)).0
+
+  pub first_more : (r : LocalRefinement) → sizes r ≡ first_split (eqb i l) (get_or now i d).size → FirstIn l old (set now i (resplit (get_or now i d) r)) (i + 1)
+  first_more r e = record {
+    first =
+        ap (take (i + 1)) (fill_set now i d h r)
+        ∙ take_more_set (fill_in now) i (sizes r) (omega (arith, fill_long now))
+        ∙ ap (λ f. f ++ (sizes r ∷ [])) b.first
+        ∙ sym (first_next l (sizes_in old) i (sizes r) (omega (arith, ap length same_sizes, cells_long now)) (e ∙ ap (first_split (eqb i l)) (sym (size_of now i d h) ∙ ap (λ cs. get_or cs i 0) same_sizes)));
+    placed = ranges_set now i d h r ∙ b.placed;
+  }
+
+pub first_ends : (l : ℕ) (old now : List SplitCell) (i : ℕ) → length now ≤ i → length now ≡ length old → FirstIn l old now i → fill_in now ≡ first_fill l 0 (sizes_in old)
+first_ends l old now i h e b =
+    sym (take_all i (fill_in now) (omega (arith, fill_long now))) ∙ b.first ∙ take_all i (first_fill l 0 (sizes_in old)) (omega (arith, first_fill_long l 0 (sizes_in old), cells_long old))
+
+-- cells put one behind the other, each at its first split
+pub record PutIn (ranges : List (ℕ × ℕ)) (cs : List SplitCell) (i : ℕ) : Type 0 where
+  pub first : fill_in cs ≡ take i (first_fill 0 0 (sizes_of ranges))
+  pub placed : ranges_in cs ≡ take i ranges
+
+pub put_begins : (ranges : List (ℕ × ℕ)) → PutIn ranges [] 0
+put_begins ranges = record { first = refl; placed = refl }
+
+pub put_long : (ranges : List (ℕ × ℕ)) (cs : List SplitCell) (i : ℕ) → i ≤ length ranges → PutIn ranges cs i → length cs ≡ i
+put_long ranges cs i h p = sym (ranges_long cs) ∙ ap length p.placed ∙ length-take-le i ranges h
+
+pub put_more : (ranges : List (ℕ × ℕ)) (cs : List SplitCell) (i : ℕ) (x : SplitCell) (d : ℕ × ℕ) → i < length ranges → PutIn ranges cs i → ◌≡◌ {A = ℕ × ℕ} (x.start, x.size) (get_or ranges i d)
+    → sizes x.split ≡ first_split (eqb i 0) (get_or ranges i d).1 → PutIn ranges (cs ++ (x ∷ [])) (i + 1)
+put_more ranges cs i x d h p is e = record {
+  first =
+      map_push (λ c. sizes c.split) cs x
+      ∙ ap (λ f. f ++ (sizes x.split ∷ [])) p.first
+      ∙ sym (first_next 0 (sizes_of ranges) i (sizes x.split) (omega (arith, length-map ranges (λ r. r.1))) (e ∙ ap (first_split (eqb i 0)) (sym (get_or-map (λ r. r.1) ranges i d 0 h))));
+  placed = map_push (λ c. (c.start, c.size)) cs x ∙ ap (λ rs. rs ++ ((x.start, x.size) ∷ [])) p.placed ∙ ap (λ y. take i ranges ++ (y ∷ [])) is ∙ sym (take_more ranges i d h);
+}
+
+pub put_ends : (ranges : List (ℕ × ℕ)) (cs : List SplitCell) (i : ℕ) → length ranges ≤ i → PutIn ranges cs i → (fill_in cs ≡ first_fill 0 0 (sizes_of ranges)) × (ranges_in cs ≡ ranges)
+put_ends ranges cs i h p = (p.first ∙ take_all i _ (omega (arith, first_fill_long 0 0 (sizes_of ranges), length-map ranges (λ r. r.1))), p.placed ∙ take_all i ranges h)

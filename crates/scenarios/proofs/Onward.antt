@@ -9,7 +9,7 @@ use Rattle.scenarios.specs.Fits.{Among}
 use Rattle.scenarios.specs.Steps.{first_of, first_turn, next_turn}
 use Rattle.scenarios.specs.Edges.{cells_at, turn_at, Walking, Begun, Moved, onward, left_of}
 use Rattle.scenarios.proofs.Walks.{turns_fit, turns_begin, turns_walk}
-use Rattle.scenarios.proofs.Filling.{sizes_long}
+use Rattle.scenarios.proofs.Filling.{cells_long}
 
 -- where a step leads
 abbrev onwards : ℕ → List ℕ → Option Turn → List Turn
@@ -48,7 +48,7 @@ left_begun n cs e b = go (turns cs) refl
     w = b.walking
 
     some : 0 < length (cells_at e)
-    some = let l = sizes_long e.cells e.ranges (let x = w.long_ranges in let y = w.few in omega arith) in let s = w.some in omega arith
+    some = omega (arith, cells_long e.cells.items, w.some)
 
     starts : first_of (turns (cells_at e)) ≡ Some (first_turn (cells_at e))
     starts = turns_begin e.n (cells_at e) w.whole some

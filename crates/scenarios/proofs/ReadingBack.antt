@@ -1,12 +1,12 @@
 -- Words read back member by member: the masks of roles, the parts, and the number of a choice. Assumes nothing.
-use Rattle.std.proofs.Common.{◌≡◌, ℕ, zero, suc, ◌+◌, ◌-◌, ◌*◌, ◌/◌, ◌%◌, ◌^◌, ◌<◌, ◌≤◌, cond, eqb, ◌≢◌, ◌⊎◌, List, [], ◌∷◌, ◌++◌, map, length, get_or, take, set, replicate, sum, sym, refl, ap, ◌∙◌, subst, inl, inr, mul-le-mul_right, arith, lit<, pow_mono}
+use Rattle.std.proofs.Common.{◌≡◌, ℕ, zero, suc, ◌+◌, ◌-◌, ◌*◌, ◌/◌, ◌%◌, ◌^◌, ◌<◌, ◌≤◌, eqb, ◌≢◌, ◌⊎◌, List, [], ◌∷◌, ◌++◌, length, get_or, take, set, replicate, filter, sym, refl, ap, ◌∙◌, subst, inl, inr, mul-le-mul_right, arith, lit<, pow_mono}
 use lib.Count.{ones}
 use Rattle.std.specs.List.{range_with_len, AllByRecursion}
 use Rattle.std.proofs.lemmas.Bool.{cases_lt, cases_eq}
 use Rattle.std.proofs.lemmas.Nat.{pow_pos, one_shl, div-add-mod', mod_below}
 use Rattle.std.proofs.lemmas.List.{append_assoc, append-nil, length-append, length-replicate, length_push, length-take-le, take_more, take_more_set, take-take, replicate_more, get_or_push, get_or-append_right, get_or-replicate}
 use Rattle.std.proofs.ByRecursion.{All-append, All-take, All-get_or}
-use Rattle.std.proofs.lemmas.List.FromFn.{sum_by-map-range_with_len_more, length-map-range_with_len, get_or-map-range_with_len, map-range_with_len_more}
+use Rattle.std.proofs.lemmas.List.FromFn.{length-map-range_with_len, get_or-map-range_with_len, map-range_with_len_more}
 use Rattle.scenarios.specs.declared.round.RoundScenario.{RoundScenario}
 use Rattle.scenarios.specs.declared.read.Reading.{Reading}
 use Rattle.scenarios.specs.Masks.{bit}
@@ -272,10 +272,7 @@ parts_fall r start len idx y w h below e q (some, fall) =
 
 -- how many of the masks below i have as many ones as m
 abbrev pub alike : ℕ → ℕ → ℕ
-alike m i = sum (map (λ x. cond (eqb (ones x) (ones m)) 1 0) (range_with_len 0 i))
-
-pub alike_more : (m i : ℕ) → alike m (i + 1) ≡ alike m i + cond (eqb (ones i) (ones m)) 1 0
-alike_more m i = sum_by-map-range_with_len_more (λ x. x) (λ x. cond (eqb (ones x) (ones m)) 1 0) 0 i i (omega arith)
+alike m i = length (filter (λ x. eqb (ones x) (ones m)) (range_with_len 0 i))
 
 rank_table : EachBelow 16 (λ m. RanksChoice m (alike m m))
 unfolding ones bit roles_in choices choose subset

@@ -4,7 +4,7 @@ use native.Mathlib.Nat.{div-eq_of_lt, pow-succ'}
 use Rattle.std.specs.List.{range_with_len, flat_map, AllByRecursion}
 use Rattle.std.proofs.lemmas.Bool.{false≢true, cases_lt, eqb-true, eqb-false, eq-eqb, ne_eqb, lt-ltb, le-ltb, le-leb}
 use Rattle.std.proofs.lemmas.Nat.{pow_pos, pow-add, mul-add-lt, div-mul-add, mod-mul-add}
-use Rattle.std.proofs.lemmas.List.{map-append, length-map, length-take, length-take-le, get_or-take, take_all, take_more, drop_all, drop_more, take-append-drop}
+use Rattle.std.proofs.lemmas.List.{map-append, length-map, length-take, length_push, get_or-take, get_or_push, take_at, take-take, take_all, take_more, drop_all, drop_more, take-append-drop}
 use Rattle.std.proofs.ByRecursion.{All-append, All-get_or}
 use Rattle.scenarios.specs.declared.round.RoundScenario.{RoundScenario}
 use Rattle.scenarios.specs.declared.refinement.LocalRefinement.{LocalRefinement}
@@ -14,7 +14,7 @@ use Rattle.scenarios.specs.Turns.{ways, tones, spell, weight_from, letters_from}
 use Rattle.scenarios.specs.Fits.{Split, Fills}
 use Rattle.scenarios.specs.Cells.{total, ends, inner, ranges_from}
 use Rattle.scenarios.specs.Refinements.{sizes}
-use Rattle.scenarios.specs.Edges.{sizes_in}
+use Rattle.scenarios.specs.Edges.{sizes_of}
 use Rattle.scenarios.specs.Readings.{letters_along, Placed, SpellsCell, CellRefused, tallied, FitsTally, Told, LedRanges, CellsRefused}
 use Rattle.scenarios.proofs.Parting.{total_append, inner_below, inner_above}
 use Rattle.scenarios.proofs.Celling.{some_part}
@@ -188,88 +188,140 @@ inner_else (c ∷ cs) j h never = go (λ l. inner_else cs (j - c) (omega arith) 
         go' (inr m) = absurd (never 0 (omega arith) (omega arith))
     go ih (inr l) = inner_above c cs j l ∙ ih l
 
-module _ (rs : List (ℕ × ℕ)) (count l : ℕ) (r : RoundScenario) (long : length rs ≡ 64) (led : LedRanges count l r.leader rs) where
-  pub count_cells : length (sizes_in count rs) ≡ count
-  count_cells = length-map (take count rs) (λ (x : ℕ × ℕ). x.1) ∙ length-take-le count rs (omega (arith, led.few))
+-- the ranges that are left, and behind them what is told
+pub record LeftTold (rs : List (ℕ × ℕ)) (l : ℕ) (r : RoundScenario) (left : List (ℕ × ℕ)) (t : Tally) : Type 0 where
+  pub few : length left ≤ length rs
+  pub front : left ≡ take (length left) rs
+  pub told : Told r l (length left) (total (take (length left) (sizes_of rs))) (drop (length left) (sizes_of rs)) t
 
-  pub here : (j : ℕ) → j < count → ((get_or rs j (0, 0)).0 ≡ total (take j (sizes_in count rs))) × ((get_or rs j (0, 0)).1 ≡ get_or (sizes_in count rs) j 0)
+-- the last of them, at the place i
+pub record LastLeft (rs : List (ℕ × ℕ)) (l : ℕ) (r : RoundScenario) (i : ℕ) (rest : List (ℕ × ℕ)) (x : ℕ × ℕ) (t : Tally) : Type 0 where
+  pub within : i < length rs
+  pub counts : length rest ≡ i
+  pub front : rest ≡ take i rs
+  pub is : x ≡ get_or rs i (0, 0)
+  pub told : Told r l (i + 1) (total (take (i + 1) (sizes_of rs))) (drop (i + 1) (sizes_of rs)) t
+
+module _ (rs : List (ℕ × ℕ)) (l : ℕ) (r : RoundScenario) (led : LedRanges l r.leader rs) where
+  pub count_cells : length (sizes_of rs) ≡ length rs
+  count_cells = length-map rs (λ (x : ℕ × ℕ). x.1)
+
+  pub here : (j : ℕ) → j < length rs → ((get_or rs j (0, 0)).0 ≡ total (take j (sizes_of rs))) × ((get_or rs j (0, 0)).1 ≡ get_or (sizes_of rs) j 0)
   here j h =
       let n = count_cells in
-      let e : get_or rs j (0, 0) ≡ get_or (ranges_from 0 (sizes_in count rs)) j (0, 0) = sym (get_or-take count rs j (0, 0) h) ∙ ap (λ l. get_or l j (0, 0)) led.ranged in
-      let k = range_at 0 (sizes_in count rs) j (omega arith) in
+      let e : get_or rs j (0, 0) ≡ get_or (ranges_from 0 (sizes_of rs)) j (0, 0) = ap (λ l. get_or l j (0, 0)) led.ranged in
+      let k = range_at 0 (sizes_of rs) j (omega arith) in
       let a = ap (λ (x : ℕ × ℕ). x.0) e in
       let b = ap (λ (x : ℕ × ℕ). x.1) e in
       (omega arith, omega arith)
 
-  some_at : (j : ℕ) → j < count → 0 < get_or (sizes_in count rs) j 0
-  some_at j h = All-get_or (λ c. 0 < c) (sizes_in count rs) j 0 (omega (arith, count_cells)) led.filled
+  some_at : (j : ℕ) → j < length rs → 0 < get_or (sizes_of rs) j 0
+  some_at j h = All-get_or (λ c. 0 < c) (sizes_of rs) j 0 (omega (arith, count_cells)) led.filled
 
-  more_at : (j : ℕ) → j < count → total (take (j + 1) (sizes_in count rs)) ≡ total (take j (sizes_in count rs)) + get_or (sizes_in count rs) j 0
-  more_at j h = total_more j (sizes_in count rs) (omega (arith, count_cells))
+  more_at : (j : ℕ) → j < length rs → total (take (j + 1) (sizes_of rs)) ≡ total (take j (sizes_of rs)) + get_or (sizes_of rs) j 0
+  more_at j h = total_more j (sizes_of rs) (omega (arith, count_cells))
 
-  most_at : (j : ℕ) → j < count → total (take (j + 1) (sizes_in count rs)) ≤ total (sizes_in count rs)
+  most_at : (j : ℕ) → j < length rs → total (take (j + 1) (sizes_of rs)) ≤ total (sizes_of rs)
   most_at j h =
       let n = count_cells in
-      let a = total_mono (j + 1) count (sizes_in count rs) (omega arith) in
-      let b = ap total (take_all count (sizes_in count rs) (omega arith)) in
+      let a = total_mono (j + 1) (length rs) (sizes_of rs) (omega arith) in
+      let b = ap total (take_all (length rs) (sizes_of rs) (omega arith)) in
       omega arith
 
-  pub bounds_at : (j : ℕ) → j < count → (0 < (get_or rs j (0, 0)).1) × ((get_or rs j (0, 0)).0 + (get_or rs j (0, 0)).1 ≤ 64)
+  pub bounds_at : (j : ℕ) → j < length rs → (0 < (get_or rs j (0, 0)).1) × ((get_or rs j (0, 0)).0 + (get_or rs j (0, 0)).1 ≤ 64)
   bounds_at j h = let k = here j h in let a = some_at j h in let b = more_at j h in let d = most_at j h in (omega arith, omega (arith, led.within))
 
-  pub placed_at : (j : ℕ) → j < count → (b : Bool) → b ≡ eqb j l → Placed b (get_or rs j (0, 0)).0 (get_or rs j (0, 0)).1 r.leader
-  placed_at j h true e = let k = here j h in let q = eqb-true j l (sym e) in let f : total (take l (sizes_in count rs)) + get_or (sizes_in count rs) l 0 ≡ total (take j (sizes_in count rs)) + get_or (sizes_in count rs) j 0 = cc in omega (arith, led.last)
+  pub placed_at : (j : ℕ) → j < length rs → (b : Bool) → b ≡ eqb j l → Placed b (get_or rs j (0, 0)).0 (get_or rs j (0, 0)).1 r.leader
+  placed_at j h true e = let k = here j h in let q = eqb-true j l (sym e) in let f : total (take l (sizes_of rs)) + get_or (sizes_of rs) l 0 ≡ total (take j (sizes_of rs)) + get_or (sizes_of rs) j 0 = cc in omega (arith, led.last)
   placed_at j h false e = go (cases_lt j l)
     where
       go : (j < l) ⊎ (l ≤ j) → (r.leader < (get_or rs j (0, 0)).0) ⊎ ((get_or rs j (0, 0)).0 + (get_or rs j (0, 0)).1 ≤ r.leader)
-      go (inl m) = inr (let k = here j h in let a = more_at j h in let b = total_mono (j + 1) l (sizes_in count rs) (omega arith) in let d = some_at l led.leads in omega (arith, led.last))
+      go (inl m) = inr (let k = here j h in let a = more_at j h in let b = total_mono (j + 1) l (sizes_of rs) (omega arith) in let d = some_at l led.leads in omega (arith, led.last))
       go (inr m) =
           let ne = eqb-false j l (sym e) in
           let m' : l + 1 ≤ j = omega arith in
-          inl (let k = here j h in let a = more_at l led.leads in let b = total_mono (l + 1) j (sizes_in count rs) m' in omega (arith, led.last))
+          inl (let k = here j h in let a = more_at l led.leads in let b = total_mono (l + 1) j (sizes_of rs) m' in omega (arith, led.last))
 
-  pub refused_at : (j : ℕ) (b : Bool) → j < count → CellRefused r (get_or rs j (0, 0)).0 (get_or rs j (0, 0)).1 b → CellsRefused r (sizes_in count rs)
+  pub refused_at : (j : ℕ) (b : Bool) → j < length rs → CellRefused r (get_or rs j (0, 0)).0 (get_or rs j (0, 0)).1 b → CellsRefused r (sizes_of rs)
   refused_at j b h (inr never) = inr never.1
   refused_at j b h (inl (k, from, to, never)) =
       let e = here j h in
       let n = count_cells in
       let a = more_at j h in
       let d = most_at j h in
-      inl (k, omega arith, inner_at (sizes_in count rs) j k (omega arith) (omega arith) (omega arith), never)
+      inl (k, omega arith, inner_at (sizes_of rs) j k (omega arith) (omega arith) (omega arith), never)
 
-  pub begun : Told r l count (total (take count (sizes_in count rs))) (drop count (sizes_in count rs)) (record { rank = 0; marks = 0 })
-  begun = subst (λ cs. Told r l count (total (take count (sizes_in count rs))) cs (record { rank = 0; marks = 0 })) (sym (drop_all count (sizes_in count rs) (omega (arith, count_cells)))) (told_none r l count (total (take count (sizes_in count rs))))
+  pub begun : Told r l (length rs) (total (take (length rs) (sizes_of rs))) (drop (length rs) (sizes_of rs)) (record { rank = 0; marks = 0 })
+  begun = subst (λ cs. Told r l (length rs) (total (take (length rs) (sizes_of rs))) cs (record { rank = 0; marks = 0 })) (sym (drop_all (length rs) (sizes_of rs) (omega (arith, count_cells)))) (told_none r l (length rs) (total (take (length rs) (sizes_of rs))))
 
-  pub added_at : (j : ℕ) (t : Tally) (b : Bool) (x : LocalRefinement) (d : ℕ) → j < count → b ≡ eqb j l
+  pub added_at : (j : ℕ) (t : Tally) (b : Bool) (x : LocalRefinement) (d : ℕ) → j < length rs → b ≡ eqb j l
       → SpellsCell b (get_or rs j (0, 0)).1 (letters_along r (get_or rs j (0, 0)).0 (get_or rs j (0, 0)).1) x d
-      → Told r l (j + 1) (total (take (j + 1) (sizes_in count rs))) (drop (j + 1) (sizes_in count rs)) t
-      → Told r l j (total (take j (sizes_in count rs))) (drop j (sizes_in count rs)) (tallied t (get_or rs j (0, 0)).0 b x d)
+      → Told r l (j + 1) (total (take (j + 1) (sizes_of rs))) (drop (j + 1) (sizes_of rs)) t
+      → Told r l j (total (take j (sizes_of rs))) (drop j (sizes_of rs)) (tallied t (get_or rs j (0, 0)).0 b x d)
   added_at j t b x d h e cell told =
       let k = here j h in
       let n = count_cells in
-      let c : ℕ = get_or (sizes_in count rs) j 0 in
-      let s : ℕ = total (take j (sizes_in count rs)) in
-      let tail : List ℕ = drop (j + 1) (sizes_in count rs) in
+      let c : ℕ = get_or (sizes_of rs) j 0 in
+      let s : ℕ = total (take j (sizes_of rs)) in
+      let tail : List ℕ = drop (j + 1) (sizes_of rs) in
       let cell' : SpellsCell b c (letters_along r s c) x d = subst (λ z. SpellsCell b c (letters_along r z c) x d) k.0 (subst (λ z. SpellsCell b z (letters_along r (get_or rs j (0, 0)).0 z) x d) k.1 cell) in
       let told' : Told r l (j + 1) (s + c) tail t = subst (λ z. Told r l (j + 1) z tail t) (more_at j h) told in
       let all : Told r l j s (c ∷ tail) (tallied t s b x d) = told_more r l j s c tail t b x d e cell' told' in
       let at : Told r l j s (c ∷ tail) (tallied t (get_or rs j (0, 0)).0 b x d) = subst (λ z. Told r l j s (c ∷ tail) (tallied t z b x d)) (sym k.0) all in
-      subst (λ z. Told r l j s z (tallied t (get_or rs j (0, 0)).0 b x d)) (sym (drop_more (sizes_in count rs) j 0 (omega arith))) at
+      subst (λ z. Told r l j s z (tallied t (get_or rs j (0, 0)).0 b x d)) (sym (drop_more (sizes_of rs) j 0 (omega arith))) at
 
-  -- the same from the place i, one cell back
-  pub added_back : (i : ℕ) (t : Tally) (x : LocalRefinement) (d : ℕ) → 0 < i → i ≤ count
-      → SpellsCell (eqb (i - 1) l) (get_or rs (i - 1) (0, 0)).1 (letters_along r (get_or rs (i - 1) (0, 0)).0 (get_or rs (i - 1) (0, 0)).1) x d
-      → Told r l i (total (take i (sizes_in count rs))) (drop i (sizes_in count rs)) t
-      → Told r l (i - 1) (total (take (i - 1) (sizes_in count rs))) (drop (i - 1) (sizes_in count rs)) (tallied t (get_or rs (i - 1) (0, 0)).0 (eqb (i - 1) l) x d)
-  added_back i t x d some h cell told =
-      let e : i ≡ i - 1 + 1 = omega arith in
-      added_at (i - 1) t (eqb (i - 1) l) x d (omega arith) refl cell (subst (λ z. Told r l z (total (take z (sizes_in count rs))) (drop z (sizes_in count rs)) t) e told)
-
-  pub fits_at : (j : ℕ) (t : Tally) → j < count → Told r l j (total (take j (sizes_in count rs))) (drop j (sizes_in count rs)) t → FitsTally t
+  pub fits_at : (j : ℕ) (t : Tally) → j < length rs → Told r l j (total (take j (sizes_of rs))) (drop j (sizes_of rs)) t → FitsTally t
   fits_at j t h told =
-      let a = total_append (take j (sizes_in count rs)) (drop j (sizes_in count rs)) in
-      let b = ap total (take-append-drop j (sizes_in count rs)) in
-      told_fits r l j (total (take j (sizes_in count rs))) (drop j (sizes_in count rs)) t told (omega (arith, led.within))
+      let a = total_append (take j (sizes_of rs)) (drop j (sizes_of rs)) in
+      let b = ap total (take-append-drop j (sizes_of rs)) in
+      told_fits r l j (total (take j (sizes_of rs))) (drop j (sizes_of rs)) t told (omega (arith, led.within))
+
+  pub left_all : LeftTold rs l r rs (record { rank = 0; marks = 0 })
+  left_all = record { few = omega arith; front = sym (take_all (length rs) rs (omega arith)); told = begun }
+
+  pub left_last : (i count : ℕ) (left rest : List (ℕ × ℕ)) (x : ℕ × ℕ) (t : Tally) → count ≡ 0 → LeftTold rs l r left t → left ≡ rest ++ (x ∷ []) → i ≡ count + length rest → LastLeft rs l r i rest x t
+  left_last i count left rest x t none told e at =
+      let counts : length rest ≡ i = omega arith in
+      let long : length left ≡ i + 1 = omega (arith, ap length e, length_push rest x) in
+      let within : i < length rs = omega (arith, told.few) in
+      let both : rest ++ (x ∷ []) ≡ take (i + 1) rs = sym e ∙ told.front ∙ ap (λ k. take k rs) long in
+      record {
+        within = within;
+        counts = counts;
+        front = sym (take_at rest (x ∷ []) i counts) ∙ ap (take i) both ∙ take-take i (i + 1) rs (omega arith);
+        is = sym (get_or_push rest x (0, 0) i (omega arith)) ∙ ap (λ xs. get_or xs i (0, 0)) both ∙ get_or-take (i + 1) rs i (0, 0) (omega arith);
+        told = subst (λ k. Told r l k (total (take k (sizes_of rs))) (drop k (sizes_of rs)) t) long told.told;
+      }
+
+  module _ (i : ℕ) (rest : List (ℕ × ℕ)) (x : ℕ × ℕ) (t : Tally) (last : LastLeft rs l r i rest x t) where
+    pub last_bounds : (0 < x.1) × (x.0 + x.1 ≤ 64)
+    last_bounds = subst (λ (y : ℕ × ℕ). (0 < y.1) × (y.0 + y.1 ≤ 64)) (sym last.is) (bounds_at i last.within)
+
+    pub last_placed : Placed (eqb i l) x.0 x.1 r.leader
+    last_placed = subst (λ (y : ℕ × ℕ). Placed (eqb i l) y.0 y.1 r.leader) (sym last.is) (placed_at i last.within (eqb i l) refl)
+
+    pub last_refused : CellRefused r x.0 x.1 (eqb i l) → CellsRefused r (sizes_of rs)
+    last_refused refused = refused_at i (eqb i l) last.within (subst (λ (y : ℕ × ℕ). CellRefused r y.0 y.1 (eqb i l)) last.is refused)
+
+    module _ (p : LocalRefinement) (d : ℕ) (cell : SpellsCell (eqb i l) x.1 (letters_along r x.0 x.1) p d) where
+      last_told : Told r l i (total (take i (sizes_of rs))) (drop i (sizes_of rs)) (tallied t x.0 (eqb i l) p d)
+      last_told =
+          subst (λ (y : ℕ × ℕ). Told r l i (total (take i (sizes_of rs))) (drop i (sizes_of rs)) (tallied t y.0 (eqb i l) p d)) (sym last.is)
+          (added_at i t (eqb i l) p d last.within refl (subst (λ (y : ℕ × ℕ). SpellsCell (eqb i l) y.1 (letters_along r y.0 y.1) p d) last.is cell) last.told)
+
+      pub last_fits : FitsTally (tallied t x.0 (eqb i l) p d)
+      last_fits = fits_at i (tallied t x.0 (eqb i l) p d) last.within last_told
+
+      pub left_more : (u : Tally) → u ≡ tallied t x.0 (eqb i l) p d → LeftTold rs l r rest u
+      left_more u e = record {
+        few = omega (arith, last.within, last.counts);
+        front = last.front ∙ ap (λ k. take k rs) (sym last.counts);
+        told = subst (λ k. Told r l k (total (take k (sizes_of rs))) (drop k (sizes_of rs)) u) (sym last.counts)
+            (subst (Told r l i (total (take i (sizes_of rs))) (drop i (sizes_of rs))) (sym e) last_told);
+      }
+
+  pub left_none : (left : List (ℕ × ℕ)) (t : Tally) → length left ≡ 0 → LeftTold rs l r left t → Told r l 0 0 (sizes_of rs) t
+  left_none left t e told = subst (λ k. Told r l k (total (take k (sizes_of rs))) (drop k (sizes_of rs)) t) e told.told
 
 pub led_some : (b : Bool) (c : ℕ) (x : LocalRefinement) → Split b c (sizes x) → b ≡ true → 0 < x.len
 led_some false c x s e = absurd (false≢true e)

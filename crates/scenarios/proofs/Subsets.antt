@@ -1,15 +1,15 @@
 -- The choices of roles, and the search for one of them.
-use Rattle.std.proofs.Common.{◌≡◌, ℕ, zero, suc, ◌+◌, ◌-◌, ◌<◌, ◌≤◌, Bool, true, false, cond, ◌&&◌, eqb, List, [], ◌∷◌, ◌++◌, length, get_or, take, set, Some, None, filter, sym, refl, ap, ◌∙◌, arith}
+use Rattle.std.proofs.Common.{◌≡◌, ℕ, zero, suc, ◌+◌, ◌-◌, ◌<◌, ◌≤◌, Bool, true, ◌&&◌, eqb, List, [], ◌∷◌, length, get_or, take, Some, None, filter, sym, refl, ap, ◌∙◌, arith}
 use lib.Count.{ones}
 use Rattle.std.specs.List.{range_with_len, slice_get}
-use Rattle.std.proofs.lemmas.List.{map-id, length-map, length-take-le, take_more_set, map_push, append-nil}
-use Rattle.std.proofs.lemmas.List.FromFn.{filter_of_map_range_with_len_more}
+use Rattle.std.proofs.lemmas.List.{length-map, length-take-le}
 use Rattle.std.proofs.ByRecursion.{All-get_or, kept_by_passes}
 use Rattle.std.proofs.lemmas.Bool.{eqb-true, eq-eqb, ne_eqb, cond-true, cond-false}
 use Rattle.std.proofs.lemmas.Bool.Decides.{Decides-below_and, Decides-eqb}
 use Rattle.scenarios.specs.Masks.{bit}
 use Rattle.scenarios.specs.Turns.{choices, choose, roles_in, subset}
 use Rattle.scenarios.specs.declared.role.Role.{Role}
+use Rattle.scenarios.specs.declared.role.Role.TheVariants.{Outside, Both, Secondary, Primary}
 use Rattle.scenarios.specs.Roles.{number, letters}
 
 pub choose_past : (k : ℕ) → 5 ≤ k → choose k ≡ 0
@@ -60,19 +60,6 @@ pub nth_next : (x : ℕ) (xs : List ℕ) (k : ℕ) → 0 < k → slice_get (x �
 nth_next x xs zero h = absurd (omega arith)
 nth_next x xs (suc k) h = ap (slice_get xs) (let e : k ≡ suc k - 1 = omega arith in e)
 
--- the roles of a mask, collected one by one
-
-pub kept_more : (p : ℕ → Bool) (i : ℕ) → filter p (range_with_len 0 (i + 1)) ≡ filter p (range_with_len 0 i) ++ cond (p i) (i ∷ []) []
-kept_more p i =
-    let e = filter_of_map_range_with_len_more p (λ x. x) 0 i i (omega arith) in
-    let a = map-id (range_with_len 0 (i + 1)) in
-    let b = map-id (range_with_len 0 i) in
-    ap (filter p) (sym a) ∙ e ∙ ap (λ xs. filter p xs ++ cond (p i) (i ∷ []) []) b
-
-pub role_put : (b : Bool) (roles : List Role) (n : ℕ) (x : Role) → n < length roles → letters (take (n + cond b 1 0) (cond b (set roles n x) roles)) ≡ letters (take n roles) ++ cond b (number x ∷ []) []
-role_put true roles n x h = ap letters (take_more_set roles n x h) ∙ map_push number (take n roles) x
-role_put false roles n x h = ap (λ k. letters (take k roles)) (let e : n + 0 ≡ n = omega arith in e) ∙ sym (append-nil (letters (take n roles)))
-
 -- the mask of a choice has as many roles as are chosen
 
 nth_some : (xs : List ℕ) (k m : ℕ) → slice_get xs k ≡ Some m → (k < length xs) × (get_or xs k 0 ≡ m)
@@ -97,19 +84,6 @@ pub choice_there : (k d : ℕ) → d < choose k → slice_get (choices k) d ≡ 
 unfolding choose
 choice_there k d h e = let r = nth_none (choices k) d e in omega arith
 
-pub collect_more : (m i n : ℕ) (roles out : List Role) (x : Role) (b : Bool) (k : ℕ) → n < length roles
-    → letters (take n roles) ≡ filter (bit m) (range_with_len 0 i) → number x ≡ i → b ≡ bit m i
-    → out ≡ cond b (set roles n x) roles → k ≡ n + cond b 1 0
-    → letters (take k out) ≡ filter (bit m) (range_with_len 0 (i + 1))
-collect_more m i n roles out x b k h e xi bi o ki =
-    ap (λ j. letters (take j out)) ki
-    ∙ ap (λ rs. letters (take (n + cond b 1 0) rs)) o
-    ∙ role_put b roles n x h
-    ∙ ap (λ ys. ys ++ cond b (number x ∷ []) []) e
-    ∙ ap (λ y. filter (bit m) (range_with_len 0 i) ++ cond b (y ∷ []) []) xi
-    ∙ ap (λ t. filter (bit m) (range_with_len 0 i) ++ cond t (i ∷ []) []) bi
-    ∙ sym (kept_more (bit m) i)
-
 pub collect_all : (m n i : ℕ) (roles : List Role) → n ≤ length roles → i ≡ 4 → letters (take n roles) ≡ filter (bit m) (range_with_len 0 i)
     → letters (take (length (roles_in m)) roles) ≡ roles_in m
 unfolding roles_in
@@ -117,6 +91,12 @@ collect_all m n i roles h i4 e =
     let q : letters (take n roles) ≡ roles_in m = e ∙ ap (λ k. filter (bit m) (range_with_len 0 k)) i4 in
     let l : length (roles_in m) ≡ n = ap length (sym q) ∙ length-map (take n roles) number ∙ length-take-le n roles h in
     ap (λ k. letters (take k roles)) l ∙ q
+
+pub number_small : (x : Role) → number x < 4
+number_small Outside = omega arith
+number_small Both = omega arith
+number_small Secondary = omega arith
+number_small Primary = omega arith
 
 pub choose_most : (k : ℕ) → choose k ≤ 6
 choose_most zero = let t = choose_table.0 in omega arith

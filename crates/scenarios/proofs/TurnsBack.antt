@@ -3,7 +3,6 @@ use Rattle.std.proofs.Common.{◌≡◌, ℕ, suc, ◌+◌, ◌-◌, ◌*◌, �
 use Rattle.std.specs.List.{range_with_len, flat_map, AllByRecursion}
 use Rattle.std.proofs.lemmas.Bool.{both_ways, cases_lt}
 use Rattle.std.proofs.lemmas.Nat.{one_shl}
-use Rattle.std.proofs.lemmas.List.{length-take-le, get_or-take}
 use Rattle.std.proofs.lemmas.List.FromFn.{length-map-range_with_len}
 use Rattle.scenarios.specs.declared.round.RoundScenario.{RoundScenario}
 use Rattle.scenarios.specs.declared.read.Tally.{Tally}
@@ -13,7 +12,7 @@ use Rattle.scenarios.specs.Turns.{weight, after, round}
 use Rattle.scenarios.specs.Cells.{total, CellsOf, cut, cells, ends, boundaries, inner, ranges_from}
 use Rattle.scenarios.specs.Canonical.{LegalRound}
 use Rattle.scenarios.specs.Claims.{Ordered}
-use Rattle.scenarios.specs.Edges.{sizes_in}
+use Rattle.scenarios.specs.Edges.{sizes_of}
 use Rattle.scenarios.specs.Readings.{Told, LedRanges, CellsRefused, ends_at, RoundRead}
 use Rattle.scenarios.proofs.Lettering.{heard_role, round_letters}
 use Rattle.scenarios.proofs.Parting.{inner_past}
@@ -37,26 +36,26 @@ length_ranges : (s : ℕ) (cs : List ℕ) → length (ranges_from s cs) ≡ leng
 length_ranges s [] = refl
 length_ranges s (c ∷ cs) = ap suc (length_ranges (s + c) cs)
 
-module _ (n s : ℕ) (r : RoundScenario) (rs : List (ℕ × ℕ)) (count : ℕ) (some : 0 < n) (most : n ≤ 64) (long : length rs ≡ 64) (few : count ≤ n) (listed : take count rs ≡ ranges_from 0 (cells n s)) (legal : LegalRound n r) where
+module _ (n s : ℕ) (r : RoundScenario) (rs : List (ℕ × ℕ)) (some : 0 < n) (most : n ≤ 64) (listed : rs ≡ ranges_from 0 (cells n s)) (legal : LegalRound n r) where
   whole : CellsOf n (cells n s)
   whole = cells_whole n s some
 
-  sizes_are : sizes_in count rs ≡ cells n s
+  sizes_are : sizes_of rs ≡ cells n s
   sizes_are = ap (map (λ (x : ℕ × ℕ). x.1)) listed ∙ sizes_ranges 0 (cells n s)
 
-  counted : length (cells n s) ≡ count
-  counted = sym (length_ranges 0 (cells n s)) ∙ ap length (sym listed) ∙ length-take-le count rs (omega arith)
+  counted : length (cells n s) ≡ length rs
+  counted = sym (length_ranges 0 (cells n s)) ∙ ap length (sym listed)
 
-  pub end_at : (k : ℕ) → k < count → ends_at rs k ≡ total (take k (cells n s)) + get_or (cells n s) k 0
+  pub end_at : (k : ℕ) → k < length rs → ends_at rs k ≡ total (take k (cells n s)) + get_or (cells n s) k 0
   end_at k h =
       let m = counted in
-      let e : get_or rs k (0, 0) ≡ get_or (ranges_from 0 (cells n s)) k (0, 0) = sym (get_or-take count rs k (0, 0) h) ∙ ap (λ l. get_or l k (0, 0)) listed in
+      let e : get_or rs k (0, 0) ≡ get_or (ranges_from 0 (cells n s)) k (0, 0) = ap (λ l. get_or l k (0, 0)) listed in
       let a = ap (λ (x : ℕ × ℕ). x.0) e in
       let b = ap (λ (x : ℕ × ℕ). x.1) e in
       let d = range_at 0 (cells n s) k (omega arith) in
       omega arith
 
-  pub end_within : (k : ℕ) → k < count → ends_at rs k ≤ 64
+  pub end_within : (k : ℕ) → k < length rs → ends_at rs k ≤ 64
   end_within k h =
       let m = counted in
       let a = end_at k h in
@@ -70,21 +69,20 @@ module _ (n s : ℕ) (r : RoundScenario) (rs : List (ℕ × ℕ)) (count : ℕ) 
       take_whole (x ∷ xs) = ap (λ l. x ∷ l) (take_whole xs)
 
   -- a leader that ends no cell has a neighbour behind it in its cell
-  pub no_leader : ((k : ℕ) → k < count → r.leader + 1 ≡ ends_at rs k → ⊥) → Ordered n (cells n s) r → ⊥
+  pub no_leader : ((k : ℕ) → k < length rs → r.leader + 1 ≡ ends_at rs k → ⊥) → Ordered n (cells n s) r → ⊥
   no_leader never ordered = out (cases_lt (r.leader + 1) n)
     where
       inside : inner (cells n s) r.leader ≡ true
-      inside = inner_else (cells n s) r.leader (omega (arith, legal.leads, whole.whole)) (λ k h e. let h' : k < count = omega (arith, counted) in never k h' (e ∙ sym (end_at k h')))
+      inside = inner_else (cells n s) r.leader (omega (arith, legal.leads, whole.whole)) (λ k h e. let h' : k < length rs = omega (arith, counted) in never k h' (e ∙ sym (end_at k h')))
 
       out : (r.leader + 1 < n) ⊎ (n ≤ r.leader + 1) → ⊥
       out (inl h) = (ordered r.leader h inside).leader_last refl
       out (inr h) = both_ways (inner (cells n s) r.leader) (inner_past (cells n s) r.leader (omega (arith, whole.whole))) inside
 
-  pub led_ranges : (l : ℕ) → l < count → r.leader + 1 ≡ ends_at rs l → LedRanges count l r.leader rs
+  pub led_ranges : (l : ℕ) → l < length rs → r.leader + 1 ≡ ends_at rs l → LedRanges l r.leader rs
   led_ranges l h e =
       let q = sym sizes_are in
       record {
-        few = omega arith;
         ranged = listed ∙ ap (ranges_from 0) q;
         filled = subst (AllByRecursion (λ c. 0 < c)) q whole.filled;
         within = subst (λ cs. total cs ≤ 64) q (omega (arith, whole.whole));
@@ -92,14 +90,14 @@ module _ (n s : ℕ) (r : RoundScenario) (rs : List (ℕ × ℕ)) (count : ℕ) 
         last = subst (λ cs. r.leader + 1 ≡ total (take l cs) + get_or cs l 0) q (e ∙ end_at l h);
       }
 
-  pub no_cells : CellsRefused r (sizes_in count rs) → Ordered n (cells n s) r → ⊥
+  pub no_cells : CellsRefused r (sizes_of rs) → Ordered n (cells n s) r → ⊥
   no_cells refused ordered = go (subst (CellsRefused r) sizes_are refused)
     where
       go : CellsRefused r (cells n s) → ⊥
       go (inl (k, h, inside, bad)) = bad (ordered k (omega (arith, whole.whole)) inside)
       go (inr none) = omega (arith, heard_role (bit r.primary r.leader) (bit r.secondary r.leader) legal.heard)
 
-  pub round_read : (l : ℕ) (t : Tally) → l < count → Told r l 0 0 (sizes_in count rs) t
+  pub round_read : (l : ℕ) (t : Tally) → l < length rs → Told r l 0 0 (sizes_of rs) t
       → RoundRead n s r (Some (record { leader_cell = l; next = record { boundaries = t.marks % ((1 * 2 ^ (n - 1)) % 2 ^ 64) }; rank = t.rank }))
   unfolding weight after round boundaries
   round_read l t h told' = (

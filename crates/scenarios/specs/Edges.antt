@@ -1,7 +1,7 @@
 -- The walk of the code over the edges of a state, as the turn that it stands at.
-use Rattle.std.specs.Prelude.{◌≡◌, ℕ, zero, suc, ◌≤◌, Bool, true, false, cond, ◌||◌, List, [], ◌∷◌, map, length, take, Some, None, Option, ◌==◌, nat_lt}
-use Rattle.std.specs.List.{slice_get, AllByRecursion}
-use Rattle.scenarios.specs.declared.refinement.LocalRefinement.{LocalRefinement}
+use Rattle.std.specs.Prelude.{◌≡◌, ℕ, zero, suc, ◌≤◌, Bool, true, false, cond, ◌||◌, List, [], ◌∷◌, map, length, Some, None, Option, ◌==◌, nat_lt}
+use Rattle.std.specs.List.{slice_get}
+use Rattle.scenarios.specs.declared.edge.SplitCell.{SplitCell}
 use Rattle.scenarios.specs.declared.edge.Edges.{Edges}
 use Rattle.scenarios.specs.declared.edge.TransitionEdge.{TransitionEdge}
 use Rattle.scenarios.specs.Cells.{CellsOf, cells, ranges_from, boundaries}
@@ -10,31 +10,33 @@ use Rattle.scenarios.specs.Fits.{Fits}
 use Rattle.scenarios.specs.Refinements.{sizes}
 use Rattle.scenarios.specs.Steps.{first_turn, next_turn}
 
--- the splits of the first k cells
-abbrev pub fill_of : ℕ → List LocalRefinement → List (List ℕ)
-fill_of k rs = map sizes (take k rs)
+-- the sizes of cells that are told as ranges
+abbrev pub sizes_of : List (ℕ × ℕ) → List ℕ
+sizes_of rs = map (λ r. r.1) rs
 
--- the sizes of the first k cells
-abbrev pub sizes_in : ℕ → List (ℕ × ℕ) → List ℕ
-sizes_in k rs = map (λ r. r.1) (take k rs)
+-- the cells as ranges, their sizes, and the parts of each
+abbrev pub ranges_in : List SplitCell → List (ℕ × ℕ)
+ranges_in cs = map (λ c. (c.start, c.size)) cs
+
+abbrev pub sizes_in : List SplitCell → List ℕ
+sizes_in cs = sizes_of (ranges_in cs)
+
+abbrev pub fill_in : List SplitCell → List (List ℕ)
+fill_in cs = map (λ c. sizes c.split) cs
 
 abbrev pub cells_at : Edges → List ℕ
-cells_at e = sizes_in e.cells e.ranges
+cells_at e = sizes_in e.cells.items
 
 abbrev pub turn_at : Edges → Turn
-turn_at e = record { leader = e.leader; fill = fill_of e.cells e.refinements }
+turn_at e = record { leader = e.leader; fill = fill_in e.cells.items }
 
 -- what holds of a walk at each of its edges
 pub record Walking (e : Edges) : Type 0 where
-  pub some : 1 ≤ e.cells
+  pub some : 1 ≤ length e.cells.items
   pub within : e.n ≤ 64
-  pub long_ranges : length e.ranges ≡ 64
-  pub long_refinements : length e.refinements ≡ 64
-  pub few : e.cells ≤ 64
-  pub ranged : take e.cells e.ranges ≡ ranges_from 0 (cells_at e)
+  pub ranged : ranges_in e.cells.items ≡ ranges_from 0 (cells_at e)
   pub whole : CellsOf e.n (cells_at e)
   pub fits : Fits (cells_at e) (turn_at e)
-  pub short : AllByRecursion (λ r. r.len ≤ 5) (take e.cells e.refinements)
 
 -- whether there is a next fill, and it is this one
 abbrev pub Stepped : Bool → Option (List (List ℕ)) → List (List ℕ) → Type 0

@@ -12,7 +12,7 @@ use Rattle.scenarios.specs.Turns.{Turn, roles_in, choose, subset, ways, tones, s
 use Rattle.scenarios.specs.Fits.{Split, Fills, Fits}
 use Rattle.scenarios.specs.Canonical.{LegalRound, InOrder}
 use Rattle.scenarios.specs.Claims.{Ordered}
-use Rattle.scenarios.specs.Edges.{sizes_in}
+use Rattle.scenarios.specs.Edges.{sizes_of}
 use Rattle.scenarios.specs.Refinements.{sizes}
 
 -- the roles, and the letters, of len participants from start on
@@ -55,7 +55,6 @@ Placed false start size l = (l < start) ⊎ (start + size ≤ l)
 
 -- a split of a cell and the number of its letters, which spell the word w
 pub record SpellsCell (led : Bool) (size : ℕ) (w : List ℕ) (r : LocalRefinement) (d : ℕ) : Type 0 where
-  pub short : r.len ≤ 5
   pub split : Split led size (sizes r)
   pub below : d < ways led (sizes r)
   pub word : spell (sizes r) (tones led (sizes r) d) ≡ w
@@ -85,13 +84,12 @@ pub record Told (r : RoundScenario) (l i start : ℕ) (cs : List ℕ) (t : Tally
   pub marked : t.marks ≡ 2 ^ start * ends (flat_map (λ ps. ps) fill)
 
 -- the ranges are cells of at most 64 participants, and the leader is the last of the cell l
-pub record LedRanges (count l leader : ℕ) (rs : List (ℕ × ℕ)) : Type 0 where
-  pub few : count ≤ 64
-  pub ranged : take count rs ≡ ranges_from 0 (sizes_in count rs)
-  pub filled : AllByRecursion (λ c. 0 < c) (sizes_in count rs)
-  pub within : total (sizes_in count rs) ≤ 64
-  pub leads : l < count
-  pub last : leader + 1 ≡ total (take l (sizes_in count rs)) + slice_index (sizes_in count rs) l
+pub record LedRanges (l leader : ℕ) (rs : List (ℕ × ℕ)) : Type 0 where
+  pub ranged : rs ≡ ranges_from 0 (sizes_of rs)
+  pub filled : AllByRecursion (λ c. 0 < c) (sizes_of rs)
+  pub within : total (sizes_of rs) ≤ 64
+  pub leads : l < length rs
+  pub last : leader + 1 ≡ total (take l (sizes_of rs)) + slice_index (sizes_of rs) l
 
 -- two neighbours of a cell are out of order, or no half hears the leader
 abbrev pub CellsRefused : RoundScenario → List ℕ → Type 0
@@ -106,9 +104,9 @@ abbrev pub ends_at : List (ℕ × ℕ) → ℕ → ℕ
 ends_at rs k = (slice_index_or rs k (0, 0)).0 + (slice_index_or rs k (0, 0)).1
 
 -- the place of the range whose last member leads
-abbrev pub LeadsRange : List (ℕ × ℕ) → ℕ → ℕ → Option ℕ → Type 0
-LeadsRange rs count leader (Some i) = (i < count) × (leader + 1 ≡ ends_at rs i)
-LeadsRange rs count leader None = (k : ℕ) → k < count → leader + 1 ≢ ends_at rs k
+abbrev pub LeadsRange : List (ℕ × ℕ) → ℕ → Option ℕ → Type 0
+LeadsRange rs leader (Some i) = (i < length rs) × (leader + 1 ≡ ends_at rs i)
+LeadsRange rs leader None = (k : ℕ) → k < length rs → leader + 1 ≢ ends_at rs k
 
 -- whether a round is legal
 abbrev pub LegalTold : ℕ → RoundScenario → Bool → Type 0

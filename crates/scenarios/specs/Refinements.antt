@@ -11,12 +11,12 @@ abbrev pub LastAbove : List ℕ → Option ℕ → Type 0
 LastAbove ps None = (k : ℕ) → k < length ps → slice_index ps k ≤ 1
 LastAbove ps (Some j) = (j < length ps) × (1 < slice_index ps j) × ((k : ℕ) → j < k → k < length ps → slice_index ps k ≤ 1)
 
--- what a step to the next composition answers: the array and how many of its places are parts, or none
-abbrev pub Composed : List ℕ → Option (List ℕ × ℕ) → Type 0
+-- what a step to the next composition answers: parts without a leader
+abbrev pub Composed : List ℕ → Option LocalRefinement → Type 0
 Composed ps None = next_composition ps ≡ None
-Composed ps (Some r) = (next_composition ps ≡ Some (take r.1 r.0)) × (r.1 ≤ 4)
+Composed ps (Some r) = (next_composition ps ≡ Some (sizes r)) × (r.len ≤ 4)
 
 -- what a step to the next refinement answers
 abbrev pub Refined : Bool → List ℕ → Option LocalRefinement → Type 0
 Refined led ps None = next_split led ps ≡ None
-Refined led ps (Some r) = (next_split led ps ≡ Some (sizes r)) × (r.len ≤ 5)
+Refined led ps (Some r) = next_split led ps ≡ Some (sizes r)

@@ -1,11 +1,11 @@
 // Residual cells: participants that every round so far has treated alike.
-ghost use Rattle.std.specs.Prelude.{◌≡◌, ◌<◌, ◌≤◌, take};
+ghost use Rattle.std.specs.Prelude.{◌≡◌, ◌<◌, ◌≤◌, length};
 ghost use Rattle.scenarios.specs.Masks.{bit};
 ghost use Rattle.scenarios.specs.Cells.{cells, ranges_from};
 ghost use Rattle.scenarios.specs.Ranges.{RangesTold};
 
 use crate::mask::mask_contains;
-use crate::place::put_if;
+use arrayvec::ArrayVec;
 use refusals::Refusal;
 
 // A residual state: bit i is set where a cell ends after participant i.
@@ -29,8 +29,8 @@ impl CellState {
         mask_contains(self.boundaries, idx)
     }
 
-    // The cells of so many participants as (start, len) ranges, and how many there are.
-    pub fn cell_ranges(self, participants: usize) -> Result<([(usize, usize); 64], usize), Refusal>
+    // The cells of so many participants as (start, len) ranges.
+    pub fn cell_ranges(self, participants: usize) -> Result<ArrayVec<(usize, usize), 64>, Refusal>
         ensures { RangesTold participants self.boundaries result }
     {
         if participants < 2 {
@@ -42,21 +42,21 @@ impl CellState {
         Ok(self.ranges(participants))
     }
 
-    // The cells of `n` participants as (start, len) ranges, and how many there are.
-    pub(crate) fn ranges(self, n: usize) -> ([(usize, usize); 64], usize)
+    // The cells of `n` participants as (start, len) ranges.
+    pub(crate) fn ranges(self, n: usize) -> ArrayVec<(usize, usize), 64>
         requires { (0 < n) × (n ≤ 64) }
-        ensures listed { take result.1 result.0 ≡ ranges_from 0 (cells n self.boundaries) }
-        ensures few { result.1 ≤ n }
+        ensures listed { result.items ≡ ranges_from 0 (cells n self.boundaries) }
+        ensures few { length result.items ≤ n }
     {
-        let mut ranges = [(0, 0); 64];
-        let mut len: usize = 0;
+        let mut ranges = ArrayVec::new();
         let mut start: usize = 0;
         for idx in 0..n - 1 {
-            let ends = self.boundary_after(idx);
-            len = put_if(ends, &mut ranges, len, (start, idx + 1 - start));
-            start = if ends { idx + 1 } else { start };
+            if self.boundary_after(idx) {
+                ranges.push((start, idx + 1 - start));
+                start = idx + 1;
+            }
         }
-        ranges[len] = (start, n - start);
-        (ranges, len + 1)
+        ranges.push((start, n - start));
+        ranges
     }
 }

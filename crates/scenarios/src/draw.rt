@@ -1,5 +1,5 @@
 // Drawing a round: its masks grow by the letters of one part of a cell after the other.
-ghost use Rattle.std.specs.Prelude.{◌≡◌, ◌+◌, ◌-◌, ◌<◌, ◌≤◌, take, replicate};
+ghost use Rattle.std.specs.Prelude.{◌≡◌, ◌+◌, ◌-◌, ◌<◌, ◌≤◌, length, take, replicate};
 ghost use Rattle.scenarios.specs.Cells.{total};
 ghost use Rattle.scenarios.specs.Letters.{grown, Below};
 ghost use Rattle.scenarios.specs.Turns as turns;
@@ -9,7 +9,7 @@ ghost use Rattle.scenarios.specs.Roles.{number, letters};
 ghost use Rattle.scenarios.specs.Refinements.{sizes};
 ghost use Rattle.scenarios.specs.Edges.{turn_at, Walking};
 
-use crate::edge::Edges;
+use crate::edge::{Edges, SplitCell};
 use crate::mask::set_mask_range;
 use crate::refinement::LocalRefinement;
 use crate::role::{Role, roles_from_rank};
@@ -46,36 +46,23 @@ fn apply_role(round: RoundScenario, start: usize, len: usize, role: Role) -> Rou
     }
 }
 
-// The role of a leader in this placement: primary, secondary, both.
-fn placed(placement: u64) -> Role
-    requires { placement < 3 }
-    ensures { number result ≡ 3 - placement }
-{
-    match placement {
-        0 => Role::Primary,
-        1 => Role::Secondary,
-        _ => Role::Both,
-    }
-}
-
-// The round with the first `count` parts, from `start` on, each in its role.
+// The round with these parts, from `start` on, each in its role.
 fn draw_parts(
     round: RoundScenario,
     start: usize,
-    parts: [usize; 5],
+    parts: &[usize],
     roles: [Role; 4],
-    count: usize,
 ) -> RoundScenario
     requires below { Below start round }
-    requires within { start + total (take count parts) ≤ 64 }
-    requires few { count ≤ 4 }
-    ensures { result ≡ grown round start (spell (take count parts) (letters (take count roles))) }
+    requires within { start + total parts.now ≤ 64 }
+    requires few { length parts.now ≤ 4 }
+    ensures { result ≡ grown round start (spell parts.now (letters (take (length parts.now) roles))) }
 {
     let mut drawn = round;
     let mut at = start;
-    for j in 0..count {
-        drawn = apply_role(drawn, at, parts[j], roles[j]);
-        at += parts[j];
+    for (part, role) in parts.iter().zip(&roles) {
+        drawn = apply_role(drawn, at, *part, *role);
+        at += *part;
     }
     drawn
 }
@@ -92,22 +79,18 @@ fn draw_cell(
 ) -> RoundScenario
     requires below { Below start round }
     requires whole { Split led size (sizes split) }
-    requires within { (start + size ≤ 64) × (split.len ≤ 5) }
+    requires within { start + size ≤ 64 }
     requires choice { digit < ways led (sizes split) }
     ensures { result ≡ grown round start (spell (sizes split) (tones led (sizes split) digit)) }
 {
-    let LocalRefinement { parts, len } = split;
+    let parts = split.sizes();
     if !led {
-        return draw_parts(round, start, parts, roles_from_rank(len, digit), len);
+        return draw_parts(round, start, parts, roles_from_rank(parts.len(), digit));
     }
-    let drawn = draw_parts(
-        round,
-        start,
-        parts,
-        roles_from_rank(len - 1, digit / 3),
-        len - 1,
-    );
-    apply_role(drawn, start + size - 1, 1, placed(digit % 3))
+    let others = &parts[..parts.len() - 1];
+    let roles = roles_from_rank(others.len(), digit / 3);
+    let drawn = draw_parts(round, start, others, roles);
+    apply_role(drawn, start + size - 1, 1, Role::placed(digit % 3))
 }
 
 // The round of the edge at which the walk stands, and of a number below the edge's weight. The first cell has the
@@ -117,16 +100,16 @@ pub(crate) fn round_at(edges: &Edges, rank: u128) -> RoundScenario
     requires below { rank < weight (turn_at edges.now) }
     ensures { result ≡ turns.round (turn_at edges.now) rank }
 {
-    let (first, len) = edges.ranges[edges.leader];
+    let cells = edges.cells.as_slice();
+    let leading = cells[edges.leader];
     let mut drawn = RoundScenario {
-        leader: first + len - 1,
+        leader: leading.start + leading.size - 1,
         primary: 0,
         secondary: 0,
     };
     let mut left = rank;
-    for i in 0..edges.cells {
-        let (start, size) = edges.ranges[i];
-        let split = edges.refinements[i];
+    for (i, cell) in cells.iter().enumerate() {
+        let SplitCell { start, size, split } = *cell;
         let led = i == edges.leader;
         let space = split.multiplicity(led) as u128;
         drawn = draw_cell(drawn, start, size, split, led, (left % space) as u64);

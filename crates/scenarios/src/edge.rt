@@ -1,14 +1,15 @@
 // The edges of a residual state, walked in their order.
-ghost use Rattle.std.specs.Prelude.{◌≡◌, ◌+◌, ◌*◌, ◌^◌, ◌<◌, ◌≤◌, length, take};
+ghost use Rattle.std.specs.Prelude.{◌≡◌, ◌+◌, ◌*◌, ◌^◌, ◌<◌, ◌≤◌};
 ghost use Rattle.std.specs.List.{AllByRecursion};
 ghost use Rattle.scenarios.specs.Fits.{Fills};
 ghost use Rattle.scenarios.specs.Cells as cells;
 ghost use Rattle.scenarios.specs.Steps.{first_fill, next_fill};
-ghost use Rattle.scenarios.specs.Edges.{sizes_in, fill_of, Stepped, Walking, Begun, Advanced, turn_at, edge_of, edge_in};
+ghost use Rattle.scenarios.specs.Edges.{sizes_in, ranges_in, fill_in, Stepped, Walking, Begun, Advanced, turn_at, edge_of, edge_in};
 
 use crate::cell::CellState;
 use crate::mask::set_mask_range;
 use crate::refinement::LocalRefinement;
+use arrayvec::ArrayVec;
 
 // An edge: the cells that a round leaves, the cell that leads in it, and how many rounds take that way.
 #[derive(Clone, Copy)]
@@ -18,78 +19,69 @@ pub struct TransitionEdge {
     pub multiplicity: u128,
 }
 
-// A walk over the edges of a state: the cells of the state, the cell that leads, and how each cell is split.
-#[derive(Clone, Copy)]
+// A cell of a state, from its first participant on, and how it is split.
+#[derive(Clone, Copy, Default)]
+pub(crate) struct SplitCell {
+    pub(crate) start: usize,
+    pub(crate) size: usize,
+    pub(crate) split: LocalRefinement,
+}
+
+// A walk over the edges of a state.
+#[derive(Drop)]
 pub(crate) struct Edges {
     // how many participants there are
     pub(crate) n: usize,
-    // the cells as (start, len) ranges, the first `cells` of them
-    pub(crate) ranges: [(usize, usize); 64],
-    pub(crate) cells: usize,
+    pub(crate) cells: ArrayVec<SplitCell, 64>,
     // the place of the cell whose last member leads
     pub(crate) leader: usize,
-    // the split of each cell
-    pub(crate) refinements: [LocalRefinement; 64],
 }
 
 // Moves on to the next splits of the cells: the last cell that has a next split takes it, and those behind it begin again.
 // False where no cell has one.
-fn next_splits(
-    ranges: &[(usize, usize)],
-    cells: usize,
-    leader: usize,
-    splits: &mut [LocalRefinement],
-) -> bool
-    requires room { (cells ≤ length ranges.now) × (cells ≤ length splits.old) }
-    requires filled { Fills leader 0 (sizes_in cells ranges.now) (fill_of cells splits.old) }
-    requires small { AllByRecursion (λ c. (0 < c) × (c ≤ 64)) (sizes_in cells ranges.now) }
-    requires short { AllByRecursion (λ r. r.len ≤ 5) (take cells splits.old) }
-    ensures stepped { Stepped result (next_fill leader 0 (sizes_in cells ranges.now) (fill_of cells splits.old)) (fill_of cells splits.new) }
-    ensures short { AllByRecursion (λ r. r.len ≤ 5) (take cells splits.new) }
+fn next_splits(cells: &mut [SplitCell], leader: usize) -> bool
+    requires filled { Fills leader 0 (sizes_in cells.old) (fill_in cells.old) }
+    requires small { AllByRecursion (λ c. (0 < c) × (c ≤ 64)) (sizes_in cells.old) }
+    ensures stepped { Stepped result (next_fill leader 0 (sizes_in cells.old) (fill_in cells.old)) (fill_in cells.new) }
+    ensures placed { ranges_in cells.new ≡ ranges_in cells.old }
 {
-    for i in (0..cells).rev() {
-        let (_, size) = ranges[i];
+    // Indexed, since a proof does not learn what a walk from the back by `iter_mut` leaves in the slice.
+    for i in (0..cells.len()).rev() {
+        let cell = &mut cells[i];
         let led = i == leader;
-        match splits[i].next(size, led) {
+        match cell.split.next(cell.size, led) {
             Some(split) => {
-                splits[i] = split;
+                cell.split = split;
                 return true;
             }
-            None => splits[i] = LocalRefinement::first(size, led),
+            None => cell.split = LocalRefinement::first(cell.size, led),
         }
     }
     false
 }
 
 // Sets each cell to its first split.
-fn first_splits(
-    ranges: &[(usize, usize)],
-    cells: usize,
-    leader: usize,
-    splits: &mut [LocalRefinement],
-)
-    requires room { (cells ≤ length ranges.now) × (cells ≤ length splits.old) }
-    requires small { AllByRecursion (λ c. (0 < c) × (c ≤ 64)) (sizes_in cells ranges.now) }
-    ensures begun { fill_of cells splits.new ≡ first_fill leader 0 (sizes_in cells ranges.now) }
-    ensures short { AllByRecursion (λ r. r.len ≤ 5) (take cells splits.new) }
+fn first_splits(cells: &mut [SplitCell], leader: usize)
+    requires small { AllByRecursion (λ c. (0 < c) × (c ≤ 64)) (sizes_in cells.old) }
+    ensures begun { fill_in cells.new ≡ first_fill leader 0 (sizes_in cells.old) }
+    ensures placed { ranges_in cells.new ≡ ranges_in cells.old }
 {
-    for i in 0..cells {
-        let (_, size) = ranges[i];
-        splits[i] = LocalRefinement::first(size, i == leader);
+    for (i, cell) in cells.iter_mut().enumerate() {
+        cell.split = LocalRefinement::first(cell.size, i == leader);
     }
 }
 
-// The mask with a bit at the last participant of each of the first `len` parts too, which begin at `start`.
-pub(crate) fn add_local_boundaries(mask: u64, start: usize, parts: [usize; 5], len: usize) -> u64
+// The mask with a bit at the last participant of each of these parts too, which begin at `start`.
+pub(crate) fn add_local_boundaries(mask: u64, start: usize, parts: &[usize]) -> u64
     requires below { mask < 2 ^ start }
-    requires filled { AllByRecursion (λ p. 0 < p) (take len parts) }
-    requires within { (start + cells.total (take len parts) ≤ 64) × (len ≤ 5) }
-    ensures { result ≡ mask + 2 ^ start * cells.ends (take len parts) }
+    requires filled { AllByRecursion (λ p. 0 < p) parts.now }
+    requires within { start + cells.total parts.now ≤ 64 }
+    ensures { result ≡ mask + 2 ^ start * cells.ends parts.now }
 {
     let mut out = mask;
     let mut end = start;
-    for j in 0..len {
-        end += parts[j];
+    for part in parts {
+        end += *part;
         out = set_mask_range(out, end - 1, 1);
     }
     out
@@ -101,18 +93,17 @@ impl Edges {
         requires { (0 < n) × (n ≤ 64) }
         ensures { Begun n (cells.cells n state.boundaries) result }
     {
-        let (ranges, cells) = state.ranges(n);
-        let mut refinements = [LocalRefinement {
-            parts: [0; 5],
-            len: 0,
-        }; 64];
-        first_splits(&ranges, cells, 0, &mut refinements);
+        let ranges = state.ranges(n);
+        let mut cells = ArrayVec::new();
+        for &(start, size) in ranges.as_slice() {
+            // the first cell leads
+            let split = LocalRefinement::first(size, cells.is_empty());
+            cells.push(SplitCell { start, size, split });
+        }
         Edges {
             n,
-            ranges,
             cells,
             leader: 0,
-            refinements,
         }
     }
 
@@ -121,16 +112,14 @@ impl Edges {
         requires { Walking self.old }
         ensures { Advanced self.old result self.new }
     {
-        let cells = self.cells;
-        let leader = self.leader;
-        if next_splits(&self.ranges, cells, leader, &mut self.refinements) {
+        if next_splits(self.cells.as_mut_slice(), self.leader) {
             return true;
         }
-        if leader + 1 >= cells {
+        if self.leader + 1 >= self.cells.len() {
             return false;
         }
-        self.leader = leader + 1;
-        first_splits(&self.ranges, cells, leader + 1, &mut self.refinements);
+        self.leader += 1;
+        first_splits(self.cells.as_mut_slice(), self.leader);
         true
     }
 
@@ -141,11 +130,9 @@ impl Edges {
     {
         let mut ends: u64 = 0;
         let mut multiplicity: u128 = 1;
-        for i in 0..self.cells {
-            let (start, _) = self.ranges[i];
-            let split = self.refinements[i];
-            ends = add_local_boundaries(ends, start, split.parts, split.len);
-            multiplicity *= split.multiplicity(i == self.leader) as u128;
+        for (i, cell) in self.cells.as_slice().iter().enumerate() {
+            ends = add_local_boundaries(ends, cell.start, cell.split.sizes());
+            multiplicity *= cell.split.multiplicity(i == self.leader) as u128;
         }
         // no boundary stands after the last participant of all
         let boundaries = ends & ((1 << (self.n - 1)) - 1);

@@ -16,7 +16,6 @@ mod edge;
 mod mask;
 mod mode;
 mod participants;
-mod place;
 mod plan;
 mod query;
 mod rank;

@@ -3,7 +3,8 @@ ghost use Rattle.std.specs.Prelude.{◌≡◌, ℕ, ◌+◌, ◌-◌, ◌*◌, �
 ghost use Rattle.std.specs.List.{AllByRecursion};
 ghost use Rattle.scenarios.specs.Cells.{total};
 ghost use Rattle.scenarios.specs.Letters.{role};
-ghost use Rattle.scenarios.specs.Edges.{sizes_in};
+ghost use Rattle.scenarios.specs.Roles.{number};
+ghost use Rattle.scenarios.specs.Edges.{sizes_of};
 ghost use Rattle.scenarios.specs.Refinements.{sizes};
 ghost use Rattle.scenarios.specs.Readings.{spelled, Reads, MemberRead, PartsRead, RanksChoice, Placed, CellRead};
 ghost use Rattle.scenarios.specs.Readings.{tallied, FitsTally, LedRanges, CellsRead, ends_at, LeadsRange, LegalTold, RoundRead};
@@ -12,6 +13,7 @@ use crate::cell::CellState;
 use crate::edge::add_local_boundaries;
 use crate::mask::mask_contains;
 use crate::refinement::LocalRefinement;
+use crate::role::Role;
 use crate::round::RoundScenario;
 
 // The parts of a cell that have a role, the first `len` of them, and the mask of their roles.
@@ -37,39 +39,40 @@ pub(crate) struct RoundRank {
     pub(crate) rank: u128,
 }
 
-// The place of the role of participant `i` in the role order.
-fn role_number(round: &RoundScenario, i: usize) -> u8
-    ensures { result ≡ role round.now i }
+// The role of participant `i`.
+fn role_of(round: &RoundScenario, i: usize) -> Role
+    ensures { number result ≡ role round.now i }
 {
     match (
         mask_contains(round.primary, i),
         mask_contains(round.secondary, i),
     ) {
-        (false, false) => 0,
-        (true, true) => 1,
-        (false, true) => 2,
-        (true, false) => 3,
+        (false, false) => Role::Outside,
+        (true, true) => Role::Both,
+        (false, true) => Role::Secondary,
+        (true, false) => Role::Primary,
     }
 }
 
 // The reading with one member more. Its role is a new one above all roles so far, or the last one, whose part grows.
-fn read_member(reading: Reading, next: u8) -> Option<Reading>
+fn read_member(reading: Reading, next: Role) -> Option<Reading>
     requires whole { Reads reading (spelled reading) }
-    requires below { (next < 4) × (length (spelled reading) < 64) }
-    ensures { MemberRead (spelled reading) next result }
+    requires below { length (spelled reading) < 64 }
+    ensures { MemberRead (spelled reading) (number next) result }
 {
     let Reading {
         mut parts,
         len,
         roles,
     } = reading;
-    let above = roles >> next;
+    let place = next.place();
+    let above = roles >> place;
     if above == 0 {
         parts[len] = 1;
         return Some(Reading {
             parts,
             len: len + 1,
-            roles: roles + (1 << next),
+            roles: roles + (1 << place),
         });
     }
     if above == 1 {
@@ -90,7 +93,7 @@ fn read_parts(round: &RoundScenario, start: usize, len: usize) -> Option<Reading
         roles: 0,
     };
     for idx in start..start + len {
-        reading = read_member(reading, role_number(round, idx))?;
+        reading = read_member(reading, role_of(round, idx))?;
     }
     Some(reading)
 }
@@ -100,13 +103,9 @@ fn choice_rank(roles: u8) -> u64
     requires { roles < 16 }
     ensures { RanksChoice roles result }
 {
-    let mut rank: u64 = 0;
-    for mask in 0..roles {
-        if mask.count_ones() == roles.count_ones() {
-            rank += 1;
-        }
-    }
-    rank
+    (0..roles)
+        .filter(|mask| mask.count_ones() == roles.count_ones())
+        .count() as u64
 }
 
 // How the cell of the `size` participants from `start` on is split, and the number of its letters.
@@ -129,48 +128,38 @@ fn read_cell(
         len,
         roles,
     } = read_parts(round, start, size - 1)?;
-    let heard = role_number(round, round.leader);
-    if heard == 0 {
-        return None;
-    }
+    let placement = role_of(round, round.leader).placement()?;
     parts[len] = 1;
-    // Primary, secondary and both are the placements 0, 1 and 2 of a leader.
     Some((
         LocalRefinement {
             parts,
             len: len + 1,
         },
-        choice_rank(roles) * 3 + u64::from(3 - heard),
+        choice_rank(roles) * 3 + placement,
     ))
 }
 
 // The tally with one cell more in front of the others, so its number is the lowest digit.
 fn add_cell(tally: Tally, start: usize, refinement: LocalRefinement, digit: u64, led: bool) -> Tally
     requires filled { AllByRecursion (λ p. 0 < p) (sizes refinement) }
-    requires within { (refinement.len ≤ 5) × (start + total (sizes refinement) ≤ 64) }
+    requires within { start + total (sizes refinement) ≤ 64 }
     requires some { led ≡ true → 0 < refinement.len }
     requires fits { FitsTally (tallied tally start led refinement digit) }
     ensures { result ≡ tallied tally start led refinement digit }
 {
     Tally {
         rank: tally.rank * u128::from(refinement.multiplicity(led)) + u128::from(digit),
-        marks: tally.marks + add_local_boundaries(0, start, refinement.parts, refinement.len),
+        marks: tally.marks + add_local_boundaries(0, start, refinement.sizes()),
     }
 }
 
 // The splits and the letters of all cells. The last cell is read first, since the first one has the lowest digit.
-fn read_cells(
-    round: &RoundScenario,
-    ranges: [(usize, usize); 64],
-    count: usize,
-    leader_cell: usize,
-) -> Option<Tally>
-    requires { LedRanges count leader_cell round.now.leader ranges }
-    ensures { CellsRead round.now leader_cell (sizes_in count ranges) result }
+fn read_cells(round: &RoundScenario, ranges: &[(usize, usize)], leader_cell: usize) -> Option<Tally>
+    requires { LedRanges leader_cell round.now.leader ranges.now }
+    ensures { CellsRead round.now leader_cell (sizes_of ranges.now) result }
 {
     let mut tally = Tally { rank: 0, marks: 0 };
-    for i in (0..count).rev() {
-        let (start, size) = ranges[i];
+    for (i, &(start, size)) in ranges.iter().enumerate().rev() {
         let led = i == leader_cell;
         let (refinement, digit) = read_cell(round, start, size, led)?;
         tally = add_cell(tally, start, refinement, digit, led);
@@ -179,18 +168,14 @@ fn read_cells(
 }
 
 // The range whose last member leads.
-fn leading_range(ranges: [(usize, usize); 64], count: usize, leader: usize) -> Option<usize>
-    requires few { (count ≤ 64) × (leader < 64) }
-    requires within { (k : ℕ) → k < count → ends_at ranges k ≤ 64 }
-    ensures { LeadsRange ranges count leader result }
+fn leading_range(ranges: &[(usize, usize)], leader: usize) -> Option<usize>
+    requires few { leader < 64 }
+    requires within { (k : ℕ) → k < length ranges.now → ends_at ranges.now k ≤ 64 }
+    ensures { LeadsRange ranges.now leader result }
 {
-    for i in 0..count {
-        let (start, size) = ranges[i];
-        if leader + 1 == start + size {
-            return Some(i);
-        }
-    }
-    None
+    ranges
+        .iter()
+        .position(|&(start, size)| start + size == leader + 1)
 }
 
 // Whether the mask has no bit from `n` on.
@@ -218,9 +203,10 @@ pub(crate) fn read_round(n: usize, state: CellState, round: RoundScenario) -> Op
     if !is_legal(n, &round) {
         return None;
     }
-    let (ranges, count) = state.ranges(n);
-    let leader_cell = leading_range(ranges, count, round.leader)?;
-    let Tally { rank, marks } = read_cells(&round, ranges, count, leader_cell)?;
+    let cells = state.ranges(n);
+    let ranges = cells.as_slice();
+    let leader_cell = leading_range(ranges, round.leader)?;
+    let Tally { rank, marks } = read_cells(&round, ranges, leader_cell)?;
     // No bit stands for the last participant of all.
     let next = CellState {
         boundaries: marks % (1 << (n - 1)),

@@ -1,11 +1,10 @@
 // The roles of participants in a round, and the choices of roles for the parts of a cell.
-ghost use Rattle.std.specs.Prelude.{◌≡◌, ◌+◌, ◌<◌, length, take};
+ghost use Rattle.std.specs.Prelude.{◌≡◌, ◌-◌, ◌<◌, length, take};
 ghost use Rattle.std.specs.List.{slice_get};
 ghost use Rattle.scenarios.specs.Turns.{choices, choose, roles_in, subset};
-ghost use Rattle.scenarios.specs.Roles.{number, letters};
+ghost use Rattle.scenarios.specs.Roles.{number, letters, PlacedAs};
 
 use crate::mask::mask_contains;
-use crate::place::put_if;
 
 // What a participant that does not lead hears in a round, in role order.
 #[derive(Clone, Copy, PartialEq, Eq, Debug)]
@@ -14,6 +13,41 @@ pub(crate) enum Role {
     Both,
     Secondary,
     Primary,
+}
+
+const IN_ORDER: [Role; 4] = [Role::Outside, Role::Both, Role::Secondary, Role::Primary];
+
+impl Role {
+    // The place of the role in the role order.
+    pub(crate) fn place(self) -> u8
+        ensures { result ≡ number self }
+    {
+        self as u8
+    }
+
+    // The role of a leader in this placement: primary, secondary, both.
+    pub(crate) fn placed(placement: u64) -> Role
+        requires { placement < 3 }
+        ensures { number result ≡ 3 - placement }
+    {
+        match placement {
+            0 => Role::Primary,
+            1 => Role::Secondary,
+            _ => Role::Both,
+        }
+    }
+
+    // The placement of a leader in this role; a leader that is outside has none.
+    pub(crate) fn placement(self) -> Option<u64>
+        ensures { PlacedAs (number self) result }
+    {
+        match self {
+            Role::Outside => None,
+            Role::Both => Some(2),
+            Role::Secondary => Some(1),
+            Role::Primary => Some(0),
+        }
+    }
 }
 
 // How many choices of `len` roles there are.
@@ -50,32 +84,17 @@ fn kth_mask(len: usize, rank: u64) -> Option<u8>
     }
 }
 
-// The role that stands at this place of the role order.
-fn role_at(place: usize) -> Role
-    requires { place < 4 }
-    ensures { number result ≡ place }
-{
-    match place {
-        0 => Role::Outside,
-        1 => Role::Both,
-        2 => Role::Secondary,
-        _ => Role::Primary,
-    }
-}
-
 // The roles of a choice, in role order from the first place on.
 fn roles_of(mask: u8) -> [Role; 4]
     ensures { letters (take (length (roles_in mask)) result) ≡ roles_in mask }
 {
     let mut roles = [Role::Outside; 4];
     let mut next: usize = 0;
-    for bit in 0..4usize {
-        next = put_if(
-            mask_contains(mask as u64, bit),
-            &mut roles,
-            next,
-            role_at(bit),
-        );
+    for role in IN_ORDER {
+        if mask_contains(mask as u64, role.place() as usize) {
+            roles[next] = role;
+            next += 1;
+        }
     }
     roles
 }

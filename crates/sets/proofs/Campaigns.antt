@@ -41,9 +41,6 @@ cells_whole n f s e = let a = allowed n f e in (cells_stand n s (omega arith)).w
 
 -- the cells of a campaign, as ranges
 
-pub front : (rs told : List (ℕ × ℕ)) (len : ℕ) → take len rs ≡ told → take (len - 0) rs ≡ told
-front rs told len e = ap (λ k. take k rs) (let z : len - 0 ≡ len = omega arith in z) ∙ e
-
 pub cells_in_row : (n f s : ℕ) (rs : List (ℕ × ℕ)) → faults_fault n f ≡ None → rs ≡ ranges_from 0 (cells n s) → InRow rs
 cells_in_row n f s rs e told =
     let a = allowed n f e in

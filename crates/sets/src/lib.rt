@@ -10,6 +10,7 @@ ghost use Rattle.sets.specs.Sets.{amounts};
 ghost use Rattle.sets.specs.Ways as ways;
 ghost use Rattle.sets.specs.Answers.{faults_fault, SetsCounted, SetWritten};
 
+use arrayvec::ArrayVec;
 use refusals::Refusal;
 use scenarios::CellState;
 use std::array;
@@ -18,9 +19,8 @@ use std::array;
 pub fn count_sets(participants: usize, faults: usize, state: CellState) -> Result<u64, Refusal>
     ensures { SetsCounted participants faults state.boundaries result }
 {
-    let (ranges, len) = campaign_cells(participants, faults, state)?;
-    let cells = &ranges[0..len];
-    Ok(count_ways(cells)[faults])
+    let cells = campaign_cells(participants, faults, state)?;
+    Ok(count_ways(cells.as_slice())[faults])
 }
 
 // Writes the members of the set of a number, in front; what is refused leaves the memory as it was.
@@ -33,8 +33,8 @@ pub fn write_set(
 ) -> Result<(), Refusal>
     ensures { SetWritten participants faults state.boundaries number members.old result members.new }
 {
-    let (ranges, len) = campaign_cells(participants, faults, state)?;
-    let cells = &ranges[0..len];
+    let cells = campaign_cells(participants, faults, state)?;
+    let cells = cells.as_slice();
     if members.len() < faults {
         return Err(Refusal::ShortMemory);
     }
@@ -45,13 +45,13 @@ pub fn write_set(
     Ok(())
 }
 
-// The cells as (start, len) ranges, and how many there are, unless participants and faults break a rule.
+// The cells as (start, len) ranges, unless participants and faults break a rule.
 fn campaign_cells(
     participants: usize,
     faults: usize,
     state: CellState,
-) -> Result<([(usize, usize); 64], usize), Refusal>
-    ensures { elim result [ Ok c ↦ (faults_fault participants faults ≡ None) × (take c.1 c.0 ≡ ranges_from 0 (cells participants state.boundaries)) × (c.1 ≤ participants) | Err e ↦ faults_fault participants faults ≡ Some (number_of e) ] }
+) -> Result<ArrayVec<(usize, usize), 64>, Refusal>
+    ensures { elim result [ Ok c ↦ (faults_fault participants faults ≡ None) × (c.items ≡ ranges_from 0 (cells participants state.boundaries)) × (length c.items ≤ participants) | Err e ↦ faults_fault participants faults ≡ Some (number_of e) ] }
 {
     let told = state.cell_ranges(participants)?;
     if faults == 0 {

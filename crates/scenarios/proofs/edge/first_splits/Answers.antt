@@ -1,20 +1,12 @@
-use Rattle.std.proofs.Common.{◌≡◌, ◌<◌, ◌≤◌, length, take, subst, arith}
-use Rattle.std.specs.List.{AllByRecursion}
-use Rattle.scenarios.proofs.Filling.{size_small, first_more, first_short, first_all}
+use Rattle.std.proofs.Common.{arith}
+use Rattle.scenarios.proofs.Filling.{first_small, first_more, first_ends}
 use Rattle.scenarios.proofs.edge.first_splits.Goals as goal
 
-pub first-requires : goal.first-requires
-first-requires c = (size_small c.args.cells c.args.ranges.now c.loop-i.i (omega arith) c.requires.room.0 c.requires.small).0
+pub first-cell-requires : goal.first-cell-requires
+first-cell-requires c = first_small c.args.leader c.args.cells.now c.loop-i.cells c.loop-i.i _ (omega arith) c.loop-i.invariant c.requires.small
 
 pub loop-i-preserved : goal.loop-i-preserved
-loop-i-preserved c =
-    let m : c.loop-i.i < length c.loop-i.splits = omega (arith, c.requires.room.1) in (
-      first_more c.args.leader c.args.cells c.args.ranges.now c.loop-i.splits c.loop-i.i c.first.result c.requires.room.0 (omega arith) m c.loop-i.invariant.0 c.first.ensures.0,
-      first_short c.args.leader c.args.cells c.args.ranges.now c.loop-i.splits c.loop-i.i c.first.result c.requires.room.0 (omega arith) m c.loop-i.invariant.1 c.first.ensures.1,
-    )
+loop-i-preserved c = first_more c.args.leader c.args.cells.now c.loop-i.cells c.loop-i.i _ (omega arith) c.loop-i.invariant c.first-cell.result c.first-cell.ensures
 
-pub returns : goal.returns
-returns c = record {
-  begun = first_all c.args.leader c.args.cells c.args.ranges.now c.loop-i.splits c.loop-i.i c.requires.room.0 (omega arith) c.loop-i.invariant.0;
-  short = subst (λ k. AllByRecursion (λ r. r.len ≤ 5) (take k c.loop-i.splits)) (let e : c.loop-i.i ≡ c.args.cells = omega arith in e) c.loop-i.invariant.1;
-}
+pub returns-clause-begun : goal.returns-clause-begun
+returns-clause-begun c = first_ends c.args.leader c.args.cells.now c.loop-i.cells c.loop-i.i (omega arith) (omega arith) c.loop-i.invariant

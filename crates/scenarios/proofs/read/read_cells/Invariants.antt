@@ -1,9 +1,8 @@
-use Rattle.std.proofs.Common.{take, drop}
-use Rattle.scenarios.specs.Cells.{total}
-use Rattle.scenarios.specs.Edges.{sizes_in}
-use Rattle.scenarios.specs.Readings.{Told}
+use Rattle.std.proofs.Common.{◌≡◌}
+use Rattle.std.specs.Iterator.Adapters.{rev_source, enumerate_source, enumerate_count}
+use Rattle.std.specs.Slice.Iter.{iter_rest}
+use Rattle.scenarios.proofs.RoundsBack.{LeftTold}
 use Rattle.scenarios.proofs.read.read_cells.Given as goal
 
--- the cells from i on are told
 abbrev pub invariant-loop-i : goal.invariant-loop-i
-invariant-loop-i l = Told l.round l.leader_cell l.i (total (take l.i (sizes_in l.count l.ranges))) (drop l.i (sizes_in l.count l.ranges)) l.tally
+invariant-loop-i l = (enumerate_count (rev_source l.i-iterator) ≡ 0) × LeftTold l.ranges l.leader_cell l.round (iter_rest (enumerate_source (rev_source l.i-iterator))) l.tally

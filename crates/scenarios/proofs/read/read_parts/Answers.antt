@@ -1,8 +1,8 @@
 use Rattle.std.proofs.Common.{◌-◌, length, sym, ap, ◌∙◌, subst, arith}
 use Rattle.std.proofs.lemmas.List.FromFn.{length-map-range_with_len}
 use Rattle.scenarios.specs.Letters.{role}
+use Rattle.scenarios.specs.Roles.{number}
 use Rattle.scenarios.specs.Readings.{PartsRead}
-use Rattle.scenarios.proofs.Lettering.{small}
 use Rattle.scenarios.proofs.ReadingBack.{read_none, read_again, read_more, parts_fall}
 use Rattle.scenarios.proofs.read.read_parts.Goals as goal
 
@@ -13,14 +13,13 @@ pub read_member-requires : goal.read_member-requires
 read_member-requires c =
     let inv = c.loop-idx.invariant in
     let long = ap length inv.spells ∙ length-map-range_with_len (role c.args.round.now) c.args.start (c.loop-idx.idx - c.args.start) in
-    let low = small c.args.round.now 0 c.loop-idx.idx in
-    record { whole = read_again c.loop-idx.reading _ inv; below = (omega (arith, c.role_number.ensures), omega (arith, c.requires)) }
+    record { whole = read_again c.loop-idx.reading _ inv; below = omega (arith, c.requires) }
 
 pub returns-in_err-reading : goal.returns-in_err-reading
 returns-in_err-reading c =
     subst (PartsRead c.args.round.now c.args.start c.args.len) (sym c.from_residual.ensures)
-    (parts_fall c.args.round.now c.args.start c.args.len c.loop-idx.idx c.role_number.result _ (omega arith) (omega arith) c.role_number.ensures c.loop-idx.invariant.spells c.in_err-reading.ensures)
+    (parts_fall c.args.round.now c.args.start c.args.len c.loop-idx.idx (number c.role_of.result) _ (omega arith) (omega arith) c.role_of.ensures c.loop-idx.invariant.spells c.in_err-reading.ensures)
 
 pub loop-idx-preserved : goal.loop-idx-preserved
 loop-idx-preserved c =
-    read_more c.args.round.now c.args.start c.loop-idx.idx c.role_number.result _ c.in_ok-reading.reading (omega arith) c.role_number.ensures c.loop-idx.invariant.spells c.in_ok-reading.ensures
+    read_more c.args.round.now c.args.start c.loop-idx.idx (number c.role_of.result) _ c.in_ok-reading.reading (omega arith) c.role_of.ensures c.loop-idx.invariant.spells c.in_ok-reading.ensures

@@ -1,10 +1,15 @@
-use Rattle.std.proofs.Common.{ℕ, ◌+◌, ◌*◌, ◌^◌, ◌<◌, eqb, sym, ap, ◌∙◌, subst, arith}
+use Rattle.std.proofs.Common.{◌≡◌, ◌+◌, ◌*◌, ◌^◌, ◌<◌, ◌≤◌, eqb, length, get_or, ap, ◌∙◌, arith}
 use Rattle.scenarios.specs.Cells.{ends}
-use Rattle.scenarios.specs.Refinements.{sizes}
-use Rattle.scenarios.proofs.Drawing.{range_at, range_within, split_of, split_at, short_at, some_refined}
-use Rattle.scenarios.proofs.Edging.{Summed, summed_none, summed_below, summed_more, summed_fits, summed_weight, summed_next}
+use Rattle.scenarios.proofs.Drawing.{range_within, split_here, some_refined}
+use Rattle.scenarios.proofs.Edging.{Summed, summed_none, below_here, summed_more, summed_fits, summed_weight, summed_next}
 use Rattle.scenarios.proofs.Walkings.{walk_some}
 use Rattle.scenarios.proofs.edge.Edges.edge.Goals as goal
+
+here : (c : goal.After-sizes) → c.cell-item.result ≡ get_or c.args.self.now.cells.items c.loop-i.i c.cell-item.result
+here c = c.cell-item.is ∙ ap (λ xs. get_or xs c.loop-i.i c.cell-item.result) c.as_slice-cell-items.ensures.value
+
+within : (c : goal.After-sizes) → c.loop-i.i < length c.args.self.now.cells.items
+within c = omega (arith, c.loop-i-test.true, ap length c.as_slice-cell-items.ensures.value)
 
 pub loop-i-init : goal.loop-i-init
 loop-i-init c = summed_none c.args.self.now
@@ -12,41 +17,35 @@ loop-i-init c = summed_none c.args.self.now
 pub add_local_boundaries-ends-requires : goal.add_local_boundaries-ends-requires
 add_local_boundaries-ends-requires c =
     let e = c.args.self.now in
-    let i = c.loop-i.i in
-    let h = c.loop-i-test.true in
-    let x = range_at e c.requires i h in
-    let split = split_at e c.requires i h in
-    let r = (range_within e c.requires i h).1 in
+    let split = split_here e c.requires c.loop-i.i c.cell-item.result (here c) (within c) in
+    let r = (range_within e c.requires c.loop-i.i c.cell-item.result (here c) (within c)).1 in
     let t = split.whole in
-    let x1 = ap (λ (g : ℕ × ℕ). g.1) x in
     record {
-      below = subst (λ (g : ℕ × ℕ). c.loop-i.ends < 2 ^ g.0) (sym x) (summed_below e c.requires i c.loop-i.ends c.loop-i.multiplicity c.loop-i.invariant);
-      filled = split.filled;
-      within = (omega arith, short_at e c.requires i h);
+      below = below_here e c.requires c.loop-i.i c.loop-i.ends c.loop-i.multiplicity c.loop-i.invariant c.cell-item.result (here c) (within c);
+      filled = rw c.sizes.ensures split.filled;
+      within = rw c.sizes.ensures (omega arith);
     }
 
 pub multiplicity-requires : goal.multiplicity-requires
 multiplicity-requires c =
-    let e = c.args.self.now in
-    let i = c.loop-i.i in
-    record {
-      short = short_at e c.requires i c.loop-i-test.true;
-      some = some_refined (eqb i e.leader) _ (split_of e i) (split_at e c.requires i c.loop-i-test.true);
-    }
+    let x = c.cell-item.result in
+    let value = c.as_slice-cell-items.ensures.value in
+    let here = c.cell-item.is ∙ ap (λ xs. get_or xs c.loop-i.i x) value in
+    some_refined (eqb c.loop-i.i c.args.self.now.leader) _ x.split (split_here c.args.self.now c.requires c.loop-i.i x here (omega (arith, c.loop-i-test.true, ap length value)))
 
 again : (c : goal.After-multiplicity) → Summed c.args.self.now (c.loop-i.i + 1) c.add_local_boundaries-ends.result (c.loop-i.multiplicity * c.multiplicity.result)
 again c =
     let e = c.args.self.now in
-    let i = c.loop-i.i in
-    let h = c.loop-i-test.true in
-    let x0 = ap (λ (g : ℕ × ℕ). g.0) (range_at e c.requires i h) in
-    summed_more e c.requires i c.loop-i.ends c.loop-i.multiplicity c.loop-i.invariant h c.add_local_boundaries-ends.result (c.loop-i.multiplicity * c.multiplicity.result)
-    (c.add_local_boundaries-ends.ensures ∙ ap (λ k. c.loop-i.ends + 2 ^ k * ends (sizes (split_of e i))) x0)
+    let x = c.cell-item.result in
+    let value = c.as_slice-cell-items.ensures.value in
+    let here = c.cell-item.is ∙ ap (λ xs. get_or xs c.loop-i.i x) value in
+    summed_more e c.requires c.loop-i.i c.loop-i.ends c.loop-i.multiplicity c.loop-i.invariant x here (omega (arith, c.loop-i-test.true, ap length value)) c.add_local_boundaries-ends.result (c.loop-i.multiplicity * c.multiplicity.result)
+    (c.add_local_boundaries-ends.ensures ∙ ap (λ ps. c.loop-i.ends + 2 ^ x.start * ends ps) c.sizes.ensures)
     (ap (λ k. c.loop-i.multiplicity * k) c.multiplicity.ensures)
 
 pub overflow_mul-multiplicity : goal.overflow_mul-multiplicity
 overflow_mul-multiplicity c =
-    let b = summed_fits c.args.self.now c.requires (c.loop-i.i + 1) c.add_local_boundaries-ends.result (c.loop-i.multiplicity * c.multiplicity.result) (again c) (omega arith) in
+    let b = summed_fits c.args.self.now c.requires (c.loop-i.i + 1) c.add_local_boundaries-ends.result (c.loop-i.multiplicity * c.multiplicity.result) (again c) (omega (arith, c.loop-i-test.true, ap length c.as_slice-cell-items.ensures.value)) in
     omega arith
 
 pub loop-i-preserved : goal.loop-i-preserved
@@ -58,6 +57,7 @@ overflow_sub-boundaries c = walk_some c.args.self.now c.requires
 pub returns : goal.returns
 returns c =
     let e = c.args.self.now in
-    let b = summed_next e c.requires c.loop-i.i c.loop-i.ends c.loop-i.multiplicity c.loop-i.invariant c.loop-i-test.false in
-    let w = summed_weight e c.requires c.loop-i.i c.loop-i.ends c.loop-i.multiplicity c.loop-i.invariant c.loop-i-test.false in
+    let all : length e.cells.items ≤ c.loop-i.i = omega (arith, c.loop-i-test.false, ap length c.as_slice-cell-items.ensures.value) in
+    let b = summed_next e c.requires c.loop-i.i c.loop-i.ends c.loop-i.multiplicity c.loop-i.invariant all in
+    let w = summed_weight e c.requires c.loop-i.i c.loop-i.ends c.loop-i.multiplicity c.loop-i.invariant all in
     λ i. record { next = record { boundaries = b i }; leader = e.leader; multiplicity = w i }

@@ -1,30 +1,33 @@
-use Rattle.std.proofs.Common.{◌≡◌, ◌<◌, ◌≤◌, map, length, sym, ap, ◌∙◌, subst, arith, rules}
-use Rattle.std.specs.List.{AllByRecursion}
-use Rattle.scenarios.specs.Cells.{cells}
-use Rattle.scenarios.specs.Edges.{sizes_in}
-use Rattle.scenarios.proofs.States.{cells_stand}
-use Rattle.scenarios.proofs.Walkings.{sizes_ranges, small_cells, walk_begins}
+use Rattle.std.proofs.Common.{◌≡◌, ◌<◌, ◌≤◌, eqb, length, get_or, refl, ap, ◌∙◌, arith}
+use Rattle.scenarios.specs.Steps.{first_split}
+use Rattle.scenarios.proofs.Filling.{put_begins, put_long, put_more, put_ends}
+use Rattle.scenarios.proofs.Walkings.{range_small, walk_begins}
 use Rattle.scenarios.proofs.edge.Edges.of.Goals as goal
 
-pub first_splits-requires : goal.first_splits-requires
-first_splits-requires c =
-    let r = c.ranges-cells.result in
-    let long : length r.0 ≡ 64 = search rules in
-    let few = c.ranges-cells.ensures.few in
-    let n = c.args.n in
-    let s = c.args.state.boundaries in
-    let w = cells_stand n s c.requires.0 in
-    let e : sizes_in r.1 r.0 ≡ cells n s = ap (map (λ x. x.1)) c.ranges-cells.ensures.listed ∙ sizes_ranges 0 (cells n s) in
-    let t = w.whole in
-    record {
-      room = (omega arith, omega arith);
-      small = subst (AllByRecursion (λ k. (0 < k) × (k ≤ 64))) (sym e) (small_cells 64 (cells n s) w.filled (omega arith));
-    }
+pub loop-start-init : goal.loop-start-init
+loop-start-init c = rw c.new-cells.ensures (put_begins c.as_slice-start-items.result.now)
+
+pub first-split-requires : goal.first-split-requires
+first-split-requires c = range_small c.args.n c.args.state.boundaries c.as_slice-start-items.result.now c.loop-start.start-index c.requires.0 c.requires.1 (c.as_slice-start-items.ensures.value ∙ c.ranges-ranges.ensures.listed) c.loop-start-test.true
+
+pub push-requires : goal.push-requires
+push-requires c =
+    let long : length c.loop-start.cells.items ≡ c.loop-start.start-index = put_long c.as_slice-start-items.result.now c.loop-start.cells.items c.loop-start.start-index (omega arith) c.loop-start.invariant in
+    let most : length c.as_slice-start-items.result.now ≤ 64 = c.as_slice-start-items.ensures.fits in
+    let h : length c.loop-start.cells.items < 64 = omega (arith, c.loop-start-test.true) in
+    (omega arith, h)
+
+pub loop-start-preserved : goal.loop-start-preserved
+loop-start-preserved c =
+    let ranges = c.as_slice-start-items.result.now in
+    let i = c.loop-start.start-index in
+    let long : length c.loop-start.cells.items ≡ i = put_long ranges c.loop-start.cells.items i (omega arith) c.loop-start.invariant in
+    let range = get_or ranges i (0, 0) in
+    rw c.push.ensures.items (put_more ranges c.loop-start.cells.items i (record { start = range.0; size = range.1; split = c.first-split.result }) (0, 0) c.loop-start-test.true c.loop-start.invariant refl
+    (c.first-split.ensures ∙ ap (λ b. first_split b range.1) (c.is_empty.ensures ∙ ap (λ k. eqb k 0) long)))
 
 pub returns : goal.returns
 returns c =
-    let r = c.ranges-cells.result in
-    let long : length r.0 ≡ 64 = search rules in
-    let long' : length c.first_splits.new.splits ≡ 64 = search rules in
-    walk_begins c.args.n c.args.state.boundaries r.0 r.1 c.first_splits.new.splits c.requires.0 c.requires.1 long long'
-    c.ranges-cells.ensures.listed c.ranges-cells.ensures.few c.first_splits.ensures.begun c.first_splits.ensures.short
+    let ranges = c.as_slice-start-items.result.now in
+    walk_begins c.args.n c.args.state.boundaries ranges c.loop-start.cells c.requires.0 c.requires.1 (c.as_slice-start-items.ensures.value ∙ c.ranges-ranges.ensures.listed)
+    (put_ends ranges c.loop-start.cells.items c.loop-start.start-index c.loop-start-test.false c.loop-start.invariant)

@@ -15,6 +15,7 @@ next_composition-requires-2 c =
     let t = total_take (n - 1) (take n ps) in
     let w = c.requires.split.whole in
     let b = c.requires.within in
+    let five = c.args.self.few in
     record {
       few = omega arith;
       filled = subst (AllByRecursion (λ p. 0 < p)) e (All-take (λ p. 0 < p) (n - 1) (take n ps) c.requires.split.filled);
@@ -25,23 +26,23 @@ next_composition-requires-2 c =
 led_next : (led : Bool) (ps : List ℕ) (o : Option (List ℕ)) → led ≡ true → next_split true ps ≡ o → next_split led ps ≡ o
 led_next led ps o e h = ap (λ b. next_split b ps) e ∙ h
 
-pub returns-in_err-parts-2 : goal.returns-in_err-parts-2
-returns-in_err-parts-2 c =
+pub returns-in_err-parts : goal.returns-in_err-parts
+returns-in_err-parts c =
     let long : length c.args.self.parts ≡ 5 = search rules in
-    let b = c.requires.within in
+    let b = c.args.self.few in
     let h : c.args.self.len ≤ length c.args.self.parts = omega arith in
-    subst (Refined c.args.led (sizes c.args.self)) (sym c.from_residual-in_err-parts-2.ensures)
-    (led_next c.args.led (sizes c.args.self) None c.if-not-led.false (led_step c.args.self.parts c.args.self.len None h c.in_err-parts-2.ensures))
+    subst (Refined c.args.led (sizes c.args.self)) (sym c.from_residual.ensures)
+    (led_next c.args.led (sizes c.args.self) None c.if-not-led.false (led_step c.args.self.parts c.args.self.len None h c.in_err-parts.ensures))
 
 pub returns : goal.returns
 returns c =
     let long : length c.args.self.parts ≡ 5 = search rules in
-    let long' : length c.in_ok-parts-2.parts ≡ 5 = search rules in
-    let b = c.requires.within in
+    let b = c.args.self.few in
     let h : c.args.self.len ≤ length c.args.self.parts = omega arith in
-    let r = c.in_ok-parts-2.ensures in
-    let q = c.in_ok-parts-2.parts in
-    let k = c.in_ok-parts-2.len in
+    let r = c.in_ok-parts.ensures in
+    let q = c.in_ok-parts.field-0.parts in
+    let k = c.in_ok-parts.field-0.len in
+    let long' : length q ≡ 5 = search rules in
     let s = led_step c.args.self.parts c.args.self.len (Some (take k q)) h r.0 in
     let t : k < length q = omega arith in
-    (led_next c.args.led (sizes c.args.self) _ c.if-not-led.false (s ∙ ap Some (sym (take_more_set q k 1 t))), omega arith)
+    led_next c.args.led (sizes c.args.self) _ c.if-not-led.false (s ∙ ap Some (sym (take_more_set q k 1 t)))
