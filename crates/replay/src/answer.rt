@@ -95,7 +95,7 @@ pub(crate) fn unrank_agrees(
     let rank = read::<u64>(words)?;
     let stored = read_rounds(words, heap)?;
     let left = plan.canonical(&stored)?;
-    let (ranges, cells) = left.cell_ranges(plan.participants())?;
+    let cells = left.cell_ranges(plan.participants())?;
     let counted = count(plan, memory)?;
     let nothing = RoundScenario {
         leader: 0,
@@ -105,9 +105,9 @@ pub(crate) fn unrank_agrees(
     let mut found = vec![in heap; nothing; stored.len()]?;
     let state = counted.scenario(rank, &mut found)?;
     let back = counted.rank(&stored)?;
-    let sizes: Vec<usize> = ranges
+    let sizes: Vec<usize> = cells
+        .as_slice()
         .iter()
-        .take(cells)
         .map(|(_, size)| *size)
         .collect(heap)?;
     Ok(

@@ -242,7 +242,7 @@ module _ (e : Edges) (w : Walking e) where
         let some = All-get_or (λ x. 0 < x) (cells_at e) i 0 (omega (arith, length_cells)) w.whole.filled in
         let most = part_within (cells_at e) i (length e.cells.items) h (omega (arith, length_cells)) in
         let all = total_take (length e.cells.items) (cells_at e) in
-        rw (starts_at, sized_at) (omega arith, omega (arith, w.whole.whole, w.within))
+        rw (starts_at, sized_at) (omega arith, omega (arith, w.whole.whole, e.participants.within.1))
 
     pub fill_at : get_or (turn_at e).fill i [] ≡ sizes x.split
     fill_at = parts_of e.cells.items i x h ∙ ap (λ c. sizes c.split) (sym here)

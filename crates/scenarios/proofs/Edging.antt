@@ -73,7 +73,7 @@ module _ (e : Edges) (w : Walking e) (i mask multiplicity : ℕ) (s : Summed e i
 pub summed_fits : (e : Edges) (w : Walking e) (i mask multiplicity : ℕ) → Summed e i mask multiplicity → i ≤ length e.cells.items → multiplicity < 2 ^ 128
 summed_fits e w i mask multiplicity s h =
     let f = weight_front (cells_at e) (turn_at e) i w.fits (omega (arith, length_fill e w)) in
-    let b = weight_small e.n (cells_at e) (turn_at e) w.within (let t = w.whole.whole in omega arith) w.whole.filled w.fits in
+    let b = weight_small e.participants.number (cells_at e) (turn_at e) e.participants.within.1 (let t = w.whole.whole in omega arith) w.whole.filled w.fits in
     let k = s.weighs in
     omega arith
 
@@ -85,14 +85,14 @@ module _ (e : Edges) (w : Walking e) (i mask multiplicity : ℕ) (s : Summed e i
   unfolding weight
   summed_weight = s.weighs ∙ ap (weight_from e.leader 0) whole_fill
 
-  pub summed_next : bit_and mask (1 * 2 ^ (e.n - 1) % 2 ^ 64 - 1) ≡ boundaries (after (turn_at e))
+  pub summed_next : bit_and mask (1 * 2 ^ (e.participants.number - 1) % 2 ^ 64 - 1) ≡ boundaries (after (turn_at e))
   unfolding after boundaries
   summed_next =
       let all : front e i ≡ flat_map (λ ps. ps) (turn_at e).fill = ap (flat_map (λ ps. ps)) whole_fill in
-      let n : total (front e i) ≡ e.n = s.whole ∙ ap total (take_all i (cells_at e) (omega (arith, length_cells e w))) ∙ w.whole.whole in
-      let k : e.n - 1 < 64 = omega (arith, w.within) in
-      ap (λ x. bit_and mask (x - 1)) (one_shl (e.n - 1) 64 k)
-      ∙ and_mask mask (e.n - 1)
-      ∙ ap (λ x. x % 2 ^ (e.n - 1)) s.ended
+      let n : total (front e i) ≡ e.participants.number = s.whole ∙ ap total (take_all i (cells_at e) (omega (arith, length_cells e w))) ∙ w.whole.whole in
+      let k : e.participants.number - 1 < 64 = omega (arith, e.participants.within.1) in
+      ap (λ x. bit_and mask (x - 1)) (one_shl (e.participants.number - 1) 64 k)
+      ∙ and_mask mask (e.participants.number - 1)
+      ∙ ap (λ x. x % 2 ^ (e.participants.number - 1)) s.ended
       ∙ ap (λ x. ends (front e i) % 2 ^ (x - 1)) (sym n)
       ∙ ap (λ ps. ends ps % 2 ^ (total ps - 1)) all

@@ -28,10 +28,10 @@ module _ (e : Edges) (w : Walking e) where
   unfolding left_of
   left_split b r s =
       let l = ap length s ∙ length-append b (turn_at e ∷ r) in
-      onward_is e.n (cells_at e) b (turn_at e) r (length (turns (cells_at e))) w.whole s (omega arith)
+      onward_is e.participants.number (cells_at e) b (turn_at e) r (length (turns (cells_at e))) w.whole s (omega arith)
 
   pub left_among : Among (turns (cells_at e)) (turn_at e)
-  left_among = (turns_fit e.n (cells_at e) w.whole (turn_at e)).1 w.fits
+  left_among = (turns_fit e.participants.number (cells_at e) w.whole (turn_at e)).1 w.fits
 
 -- the turn at which the walk stands is the first that is left
 pub left_here : (e : Edges) → Walking e → (rest : List Turn) × (left_of e ≡ turn_at e ∷ rest)
@@ -51,7 +51,7 @@ left_begun n cs e b = go (turns cs) refl
     some = omega (arith, cells_long e.cells.items, w.some)
 
     starts : first_of (turns (cells_at e)) ≡ Some (first_turn (cells_at e))
-    starts = turns_begin e.n (cells_at e) w.whole some
+    starts = turns_begin e.participants.number (cells_at e) w.whole some
 
     at : turn_at e ≡ first_turn (cells_at e)
     at = b.first ∙ ap first_turn (sym b.at)
@@ -70,7 +70,7 @@ pub left_moved : (e f : Edges) → Walking e → Moved e f → left_of e ≡ tur
 left_moved e f w m = go (left_among e w)
   where
     go : Among (turns (cells_at e)) (turn_at e) → left_of e ≡ turn_at e ∷ left_of f
-    go (b, r, s) = next r s (turns_walk e.n (cells_at e) w.whole b (turn_at e) r s)
+    go (b, r, s) = next r s (turns_walk e.participants.number (cells_at e) w.whole b (turn_at e) r s)
       where
         next : (r' : List Turn) → turns (cells_at e) ≡ b ++ (turn_at e ∷ r') → next_turn (cells_at e) (turn_at e) ≡ first_of r' → left_of e ≡ turn_at e ∷ left_of f
         next [] s' q = absurd (let z = sym m.next ∙ q in let y : ◌≡◌ {A = ℕ} 0 1 = cc in omega arith)
@@ -85,7 +85,7 @@ pub left_ended : (e : Edges) → Walking e → next_turn (cells_at e) (turn_at e
 left_ended e w n = go (left_among e w)
   where
     go : Among (turns (cells_at e)) (turn_at e) → left_of e ≡ turn_at e ∷ []
-    go (b, r, s) = next r s (turns_walk e.n (cells_at e) w.whole b (turn_at e) r s)
+    go (b, r, s) = next r s (turns_walk e.participants.number (cells_at e) w.whole b (turn_at e) r s)
       where
         next : (r' : List Turn) → turns (cells_at e) ≡ b ++ (turn_at e ∷ r') → next_turn (cells_at e) (turn_at e) ≡ first_of r' → left_of e ≡ turn_at e ∷ []
         next [] s' q = left_split e w b [] s'

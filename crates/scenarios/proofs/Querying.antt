@@ -118,10 +118,10 @@ legal_from Sampled n R rs s e = record { enough = s; each = e }
 legal_from Sustained n R rs s e = (record { enough = s.0; each = e }, s.1)
 
 -- the state after canonical rounds of the plan's shape, or the refusal where they are not canonical
-pub canonical_told : (p q : Plan) (rs : List RoundScenario) (o : Option CellState) → q ≡ p → fault_of q ≡ None → Shaped q.mode q.rounds rs × (length rs ≤ 64) → CanonicalTold q.participants rs o
+pub canonical_told : (p : Plan) (rs : List RoundScenario) (o : Option CellState) → fault_of p ≡ None → Shaped p.mode p.rounds rs × (length rs ≤ 64) → CanonicalTold p.participants rs o
     → (r : Result CellState Refusal) → r ≡ ok_or o NotCanonical → CanonicalAnswered p rs r
-canonical_told p q rs o e f s t r is = subst (λ z. CanonicalAnswered z rs r) e (subst (CanonicalAnswered q rs) (sym is) (go o t))
+canonical_told p rs o f s t r is = subst (CanonicalAnswered p rs) (sym is) (go o t)
   where
-    go : (o : Option CellState) → CanonicalTold q.participants rs o → CanonicalAnswered q rs (ok_or o NotCanonical)
-    go None t = (f, inr ((λ _. 17), s.1, λ legal. t (each_of q.mode q.participants q.rounds rs legal)))
-    go (Some x) t = (f, legal_from q.mode q.participants q.rounds rs s.0 t.0, t.1, t.2)
+    go : (o : Option CellState) → CanonicalTold p.participants rs o → CanonicalAnswered p rs (ok_or o NotCanonical)
+    go None t = (f, inr ((λ _. 17), s.1, λ legal. t (each_of p.mode p.participants p.rounds rs legal)))
+    go (Some x) t = (f, legal_from p.mode p.participants p.rounds rs s.0 t.0, t.1, t.2)

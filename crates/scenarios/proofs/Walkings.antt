@@ -4,6 +4,7 @@ use Rattle.std.specs.List.{AllByRecursion, range_with_len, refill}
 use Rattle.std.proofs.lemmas.List.{append-nil, drop_all, take_all, length-map, get_or-map}
 use Rattle.std.proofs.lemmas.Bool.{lt-ltb, le-ltb, cond-true, cond-false}
 use Rattle.arrayvec.specs.ArrayVec.{ArrayVec}
+use Rattle.scenarios.specs.declared.participants.Participants.{Participants}
 use Rattle.scenarios.specs.declared.edge.SplitCell.{SplitCell}
 use Rattle.scenarios.specs.declared.edge.Edges.{Edges}
 use Rattle.scenarios.specs.Masks.{bit}
@@ -45,10 +46,12 @@ cells_some n s = cut_some 1 (map (bit s) (range_with_len 0 (n - 1)))
 pub walk_small_cells : (n s : ℕ) → 0 < n → n ≤ 64 → AllByRecursion (λ c. (0 < c) × (c ≤ 64)) (cells n s)
 walk_small_cells n s h b = let w = cells_stand n s h in small_cells 64 (cells n s) w.filled (omega (arith, w.whole))
 
-pub walk_begins : (n s : ℕ) (ranges : List (ℕ × ℕ)) (cs : ArrayVec SplitCell) → 0 < n → n ≤ 64 → ranges ≡ ranges_from 0 (cells n s)
+pub walk_begins : (p : Participants) (s : ℕ) (ranges : List (ℕ × ℕ)) (cs : ArrayVec SplitCell) → ranges ≡ ranges_from 0 (cells p.number s)
     → (fill_in cs.items ≡ first_fill 0 0 (sizes_of ranges)) × (ranges_in cs.items ≡ ranges)
-    → Begun n (cells n s) (record { n = n; cells = cs; leader = 0 })
-walk_begins n s ranges cs h b listed put =
+    → Begun p.number (cells p.number s) (record { participants = p; cells = cs; leader = 0 })
+walk_begins p s ranges cs listed put =
+    let n = p.number in
+    let h = p.within.0 in
     let at : sizes_in cs.items ≡ cells n s = ap sizes_of (put.1 ∙ listed) ∙ sizes_ranges 0 (cells n s) in
     let some : 1 ≤ length (cells n s) = cells_some n s in
     let w : CellsOf n (sizes_in cs.items) = subst (CellsOf n) (sym at) (cells_stand n s h) in
@@ -57,7 +60,6 @@ walk_begins n s ranges cs h b listed put =
     record {
       walking = record {
         some = omega (arith, cells_long cs.items);
-        within = b;
         ranged = put.1 ∙ listed ∙ ap (ranges_from 0) (sym at);
         whole = w;
         fits = subst (Fits (sizes_in cs.items)) (sym t) (first_fits n (sizes_in cs.items) w (omega arith));
@@ -85,7 +87,7 @@ stepped cs l f o e = next_turn_is cs l f ∙ ap (through (turn l) (turn_from cs 
 
 module _ (e : Edges) (w : Walking e) where
   pub walk_small : AllByRecursion (λ c. (0 < c) × (c ≤ 64)) (cells_at e)
-  walk_small = small_cells 64 (cells_at e) w.whole.filled (let t = w.whole.whole in let b = w.within in omega arith)
+  walk_small = small_cells 64 (cells_at e) w.whole.filled (let t = w.whole.whole in let b = e.participants.within.1 in omega arith)
 
   long_cells : length (cells_at e) ≡ length e.cells.items
   long_cells = cells_long e.cells.items
@@ -93,7 +95,7 @@ module _ (e : Edges) (w : Walking e) where
   pub walk_leads : e.leader < length e.cells.items
   walk_leads = omega (arith, w.fits.leads, long_cells)
 
-  pub walk_some : 1 ≤ e.n
+  pub walk_some : 1 ≤ e.participants.number
   walk_some =
       let some = All-get_or (λ c. 0 < c) (cells_at e) 0 0 (omega (arith, long_cells, w.some)) w.whole.filled in
       let most = part_most (cells_at e) 0 in
@@ -106,25 +108,24 @@ module _ (e : Edges) (w : Walking e) where
     same : sizes_in cs.items ≡ cells_at e
     same = ap sizes_of placed
 
-    pub walk_moves : (l : ℕ) → next_turn (cells_at e) (turn_at e) ≡ Some (turn l (fill_in cs.items)) → Moved e (record { n = e.n; cells = cs; leader = l })
+    pub walk_moves : (l : ℕ) → next_turn (cells_at e) (turn_at e) ≡ Some (turn l (fill_in cs.items)) → Moved e (record { participants = e.participants; cells = cs; leader = l })
     walk_moves l n = record {
       walking = record {
         some = omega (arith, ap length placed, ranges_long cs.items, ranges_long e.cells.items, w.some);
-        within = w.within;
         ranged = placed ∙ w.ranged ∙ ap (ranges_from 0) (sym same);
-        whole = subst (CellsOf e.n) (sym same) w.whole;
-        fits = subst (λ xs. Fits xs (turn l (fill_in cs.items))) (sym same) (next_fits e.n (cells_at e) (turn_at e) (turn l (fill_in cs.items)) w.whole w.fits n);
+        whole = subst (CellsOf e.participants.number) (sym same) w.whole;
+        fits = subst (λ xs. Fits xs (turn l (fill_in cs.items))) (sym same) (next_fits e.participants.number (cells_at e) (turn_at e) (turn l (fill_in cs.items)) w.whole w.fits n);
       };
       of = refl;
       at = same;
       next = n;
     }
 
-    pub walk_on : next_fill e.leader 0 (cells_at e) (fill_in e.cells.items) ≡ Some (fill_in cs.items) → Moved e (record { n = e.n; cells = cs; leader = e.leader })
+    pub walk_on : next_fill e.leader 0 (cells_at e) (fill_in e.cells.items) ≡ Some (fill_in cs.items) → Moved e (record { participants = e.participants; cells = cs; leader = e.leader })
     walk_on n = walk_moves e.leader (stepped (cells_at e) e.leader (fill_in e.cells.items) _ n)
 
     pub walk_over : next_fill e.leader 0 (cells_at e) (fill_in e.cells.items) ≡ None → e.leader + 1 < length e.cells.items
-        → fill_in cs.items ≡ first_fill (e.leader + 1) 0 (cells_at e) → Moved e (record { n = e.n; cells = cs; leader = e.leader + 1 })
+        → fill_in cs.items ≡ first_fill (e.leader + 1) 0 (cells_at e) → Moved e (record { participants = e.participants; cells = cs; leader = e.leader + 1 })
     walk_over n h b = walk_moves (e.leader + 1)
         (stepped (cells_at e) e.leader (fill_in e.cells.items) None n
         ∙ cond-true (ltb (e.leader + 1) (length (cells_at e))) _ _ (lt-ltb (e.leader + 1) (length (cells_at e)) (omega (arith, long_cells)))

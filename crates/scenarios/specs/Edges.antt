@@ -33,9 +33,8 @@ turn_at e = record { leader = e.leader; fill = fill_in e.cells.items }
 -- what holds of a walk at each of its edges
 pub record Walking (e : Edges) : Type 0 where
   pub some : 1 ≤ length e.cells.items
-  pub within : e.n ≤ 64
   pub ranged : ranges_in e.cells.items ≡ ranges_from 0 (cells_at e)
-  pub whole : CellsOf e.n (cells_at e)
+  pub whole : CellsOf e.participants.number (cells_at e)
   pub fits : Fits (cells_at e) (turn_at e)
 
 -- whether there is a next fill, and it is this one
@@ -46,14 +45,14 @@ Stepped false o f = o ≡ None
 -- the walk stands at the first edge of these cells of n participants
 pub record Begun (n : ℕ) (cs : List ℕ) (e : Edges) : Type 0 where
   pub walking : Walking e
-  pub of : e.n ≡ n
+  pub of : e.participants.number ≡ n
   pub at : cells_at e ≡ cs
   pub first : turn_at e ≡ first_turn cs
 
 -- the walk has moved from e on to the next edge, or there was none
 pub record Moved (e f : Edges) : Type 0 where
   pub walking : Walking f
-  pub of : f.n ≡ e.n
+  pub of : f.participants.number ≡ e.participants.number
   pub at : cells_at f ≡ cells_at e
   pub next : next_turn (cells_at e) (turn_at e) ≡ Some (turn_at f)
 

@@ -5,6 +5,7 @@ ghost use Rattle.scenarios.specs.Cells.{cells, ranges_from};
 ghost use Rattle.scenarios.specs.Ranges.{RangesTold};
 
 use crate::mask::mask_contains;
+use crate::participants::Participants;
 use arrayvec::ArrayVec;
 use refusals::Refusal;
 
@@ -39,15 +40,17 @@ impl CellState {
         if participants > 64 {
             return Err(Refusal::ManyParticipants);
         }
-        Ok(self.ranges(participants))
+        Ok(self.ranges(Participants {
+            number: participants,
+        }))
     }
 
-    // The cells of `n` participants as (start, len) ranges.
-    pub(crate) fn ranges(self, n: usize) -> ArrayVec<(usize, usize), 64>
-        requires { (0 < n) × (n ≤ 64) }
-        ensures listed { result.items ≡ ranges_from 0 (cells n self.boundaries) }
-        ensures few { length result.items ≤ n }
+    // The cells of so many participants as (start, len) ranges.
+    pub(crate) fn ranges(self, participants: Participants) -> ArrayVec<(usize, usize), 64>
+        ensures listed { result.items ≡ ranges_from 0 (cells participants.number self.boundaries) }
+        ensures few { length result.items ≤ participants.number }
     {
+        let n = participants.number;
         let mut ranges = ArrayVec::new();
         let mut start: usize = 0;
         for idx in 0..n - 1 {

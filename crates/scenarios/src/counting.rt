@@ -70,7 +70,7 @@ fn note_nexts(
 ) -> Option<usize>
     ensures { (ps : List Place) (xs : List counts.Slot) → slot.Holds ps len xs slots.old → slot.Kept (counts.noted counts.same_place ps (slot.afters participants.number depth place)) xs result slots.new }
 {
-    let mut edges = Edges::of(participants.number, place.state);
+    let mut edges = Edges::of(participants, place.state);
     let mut used = len;
     loop {
         used = note_place(
@@ -143,7 +143,7 @@ fn sum_nexts(
         return Some(1);
     }
     let used = &slots[..len.min(slots.len())];
-    let mut edges = Edges::of(participants.number, place.state);
+    let mut edges = Edges::of(participants, place.state);
     let mut total = 0;
     loop {
         let edge = edges.edge();

@@ -8,6 +8,7 @@ ghost use Rattle.scenarios.specs.Edges.{sizes_in, ranges_in, fill_in, Stepped, W
 
 use crate::cell::CellState;
 use crate::mask::set_mask_range;
+use crate::participants::Participants;
 use crate::refinement::LocalRefinement;
 use arrayvec::ArrayVec;
 
@@ -30,8 +31,7 @@ pub(crate) struct SplitCell {
 // A walk over the edges of a state.
 #[derive(Drop)]
 pub(crate) struct Edges {
-    // how many participants there are
-    pub(crate) n: usize,
+    pub(crate) participants: Participants,
     pub(crate) cells: ArrayVec<SplitCell, 64>,
     // the place of the cell whose last member leads
     pub(crate) leader: usize,
@@ -88,12 +88,11 @@ pub(crate) fn add_local_boundaries(mask: u64, start: usize, parts: &[usize]) -> 
 }
 
 impl Edges {
-    // The walk over the edges of a state of `n` participants, at its first edge.
-    pub(crate) fn of(n: usize, state: CellState) -> Edges
-        requires { (0 < n) × (n ≤ 64) }
-        ensures { Begun n (cells.cells n state.boundaries) result }
+    // The walk over the edges of a state, at its first edge.
+    pub(crate) fn of(participants: Participants, state: CellState) -> Edges
+        ensures { Begun participants.number (cells.cells participants.number state.boundaries) result }
     {
-        let ranges = state.ranges(n);
+        let ranges = state.ranges(participants);
         let mut cells = ArrayVec::new();
         for &(start, size) in ranges.as_slice() {
             // the first cell leads
@@ -101,7 +100,7 @@ impl Edges {
             cells.push(SplitCell { start, size, split });
         }
         Edges {
-            n,
+            participants,
             cells,
             leader: 0,
         }
@@ -135,7 +134,7 @@ impl Edges {
             multiplicity *= cell.split.multiplicity(i == self.leader) as u128;
         }
         // no boundary stands after the last participant of all
-        let boundaries = ends & ((1 << (self.n - 1)) - 1);
+        let boundaries = ends & ((1 << (self.participants.number - 1)) - 1);
         TransitionEdge {
             next: CellState { boundaries },
             leader: self.leader,
@@ -149,10 +148,7 @@ impl Edges {
 pub fn edge_at(n: usize, state: CellState, place: usize) -> Option<TransitionEdge>
     ensures { result ≡ edge_in n state.boundaries place }
 {
-    if n == 0 || n > 64 {
-        return None;
-    }
-    let mut edges = Edges::of(n, state);
+    let mut edges = Edges::of(Participants::new(n)?, state);
     for _ in 0..place {
         if !edges.advance() {
             return None;

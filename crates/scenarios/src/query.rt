@@ -33,9 +33,8 @@ impl Plan {
     pub fn canonical(&self, rounds: &[RoundScenario]) -> Result<CellState, Refusal>
         ensures { CanonicalAnswered self.now rounds.now result }
     {
-        let plan = self.numbers();
-        check_shape(plan, rounds)?;
-        residual_state(plan.participants, rounds).ok_or(Refusal::NotCanonical)
+        check_shape(self.numbers(), rounds)?;
+        residual_state(self.size(), rounds).ok_or(Refusal::NotCanonical)
     }
 }
 

@@ -20,7 +20,7 @@ impl SuffixCounts<'_> {
         requires told { (t : Turn) × Tells self.now.participants.number state.boundaries read t }
         ensures { (t : Turn) → Tells self.now.participants.number state.boundaries read t → FirstRank (self.now.rounds - (depth + 1)) (cells self.now.participants.number state.boundaries) t read.rank result }
     {
-        let mut edges = Edges::of(self.participants.number, state);
+        let mut edges = Edges::of(self.participants, state);
         let mut before: u64 = 0;
         loop {
             let edge = edges.edge();
@@ -44,7 +44,7 @@ impl SuffixCounts<'_> {
         let mut state = CellState::initial();
         let mut rank: u64 = 0;
         for (i, round) in script.iter().enumerate() {
-            let read = read_round(self.participants.number, state, *round)?;
+            let read = read_round(self.participants, state, *round)?;
             rank += self.rank_before(i, state, read);
             state = read.next;
         }

@@ -12,6 +12,7 @@ ghost use Rattle.scenarios.specs.Readings.{tallied, FitsTally, LedRanges, CellsR
 use crate::cell::CellState;
 use crate::edge::add_local_boundaries;
 use crate::mask::mask_contains;
+use crate::participants::Participants;
 use crate::refinement::LocalRefinement;
 use crate::role::Role;
 use crate::round::RoundScenario;
@@ -196,14 +197,18 @@ fn is_legal(n: usize, round: &RoundScenario) -> bool
 }
 
 // The turn from the cells of this state that the round belongs to, and its number there.
-pub(crate) fn read_round(n: usize, state: CellState, round: RoundScenario) -> Option<RoundRank>
-    requires { (0 < n) × (n ≤ 64) }
-    ensures { RoundRead n state.boundaries round result }
+pub(crate) fn read_round(
+    participants: Participants,
+    state: CellState,
+    round: RoundScenario,
+) -> Option<RoundRank>
+    ensures { RoundRead participants.number state.boundaries round result }
 {
+    let n = participants.number;
     if !is_legal(n, &round) {
         return None;
     }
-    let cells = state.ranges(n);
+    let cells = state.ranges(participants);
     let ranges = cells.as_slice();
     let leader_cell = leading_range(ranges, round.leader)?;
     let Tally { rank, marks } = read_cells(&round, ranges, leader_cell)?;

@@ -29,7 +29,7 @@ impl SuffixCounts<'_> {
         requires below { rank < count (self.now.rounds - depth) (cellular.cells self.now.participants.number state.boundaries) }
         ensures { Stepped self.now.participants.number self.now.rounds depth state.boundaries rank result }
     {
-        let mut edges = Edges::of(self.participants.number, state);
+        let mut edges = Edges::of(self.participants, state);
         let mut left = rank;
         loop {
             let edge = edges.edge();

@@ -35,7 +35,7 @@ returns c =
     let f = c.args.faults in
     let s = c.args.state.boundaries in
     let told = c.in_ok-cells.ensures in
-    let is = front _ _ _ told.1 in
+    let is = c.as_slice.ensures.value ∙ told.1 in
     let count = sets_counted n f s _ c.count_ways.result told.0 is c.count_ways.ensures in
     let low : c.args.number < length (sets (cells n s) f) = omega arith in (
       no_fault n f s c.args.number (length c.args.members.now) told.0 c.if-members-faults.false low,

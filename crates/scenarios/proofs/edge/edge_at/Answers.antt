@@ -1,15 +1,22 @@
-use Rattle.std.proofs.Common.{◌≡◌, ℕ, ◌≤◌, ◌||◌, eqb, ltb, ◌∷◌, map, drop, Some, sym, refl, ap, ◌∙◌, arith}
+use Rattle.std.proofs.Common.{◌≡◌, ℕ, ◌<◌, ◌||◌, eqb, ltb, ◌∷◌, map, drop, Some, sym, refl, ap, ◌∙◌, subst, arith}
 use Rattle.std.specs.List.{slice_get}
 use Rattle.std.proofs.lemmas.Bool.{or_from, ne_eqb, le-ltb, cond-false}
+use Rattle.scenarios.specs.declared.participants.Participants.{Participants}
 use Rattle.scenarios.specs.Cells.{cells}
 use Rattle.scenarios.specs.Turns.{turns}
 use Rattle.scenarios.specs.Edges.{edge_of, edge_in, left_of, turn_at}
 use Rattle.scenarios.proofs.Onward.{left_begun, left_moved, left_ended, left_here, drop_next, nth_at, nth_past}
 use Rattle.scenarios.proofs.edge.edge_at.Goals as goal
 
+some : (n : ℕ) → 0 < n → n ≡ 0 → ⊥
+some n h e = omega arith
+
 -- for so many participants there are edges
-within : (n s place : ℕ) → (n ≡ 0 → ⊥) → n ≤ 64 → edge_in n s place ≡ slice_get (map edge_of (turns (cells n s))) place
-within n s place h b = cond-false (eqb n 0 || ltb 64 n) _ _ (or_from (eqb n 0) (ltb 64 n) (ne_eqb n 0 h) (le-ltb 64 n b))
+within : (p : Participants) (n s place : ℕ) → p.number ≡ n → edge_in n s place ≡ slice_get (map edge_of (turns (cells p.number s))) place
+within p n s place e =
+    let k = p.number in
+    subst (λ m. edge_in m s place ≡ slice_get (map edge_of (turns (cells k s))) place) e
+    (cond-false (eqb k 0 || ltb 64 k) _ _ (or_from (eqb k 0) (ltb 64 k) (ne_eqb k 0 (some k p.within.0)) (le-ltb 64 k p.within.1)))
 
 pub loop-init : goal.loop-init
 loop-init c = (c.of-edges.ensures.walking, refl)
@@ -19,11 +26,11 @@ advance-requires c = c.loop.invariant.0
 
 pub returns-then-not-advance : goal.returns-then-not-advance
 returns-then-not-advance c =
-    let n = c.args.n in
+    let p = c.in_ok-new.field-0 in
     let s = c.args.state.boundaries in
-    let b = left_begun n (cells n s) c.of-edges.result c.of-edges.ensures in
+    let b = left_begun p.number (cells p.number s) c.of-edges.result c.of-edges.ensures in
     let e = sym c.loop.invariant.1 ∙ left_ended c.loop.edges c.loop.invariant.0 c.if-not-advance.ensures in
-    sym (within n s c.args.place c.if-n-eq0.false c.if-n-gt64.false
+    sym (within p c.args.n s c.args.place c.in_ok-new.ensures
     ∙ ap (λ ts. slice_get (map edge_of ts) c.args.place) (sym b)
     ∙ nth_past edge_of (left_of c.of-edges.result) c.loop.counter c.args.place (turn_at c.loop.edges) e c.loop-test.true)
 
@@ -38,13 +45,13 @@ edge-requires c = c.loop.invariant.0
 
 pub returns : goal.returns
 returns c =
-    let n = c.args.n in
+    let p = c.in_ok-new.field-0 in
     let s = c.args.state.boundaries in
-    let b = left_begun n (cells n s) c.of-edges.result c.of-edges.ensures in
+    let b = left_begun p.number (cells p.number s) c.of-edges.result c.of-edges.ensures in
     let here = left_here c.loop.edges c.loop.invariant.0 in
     let at : c.loop.counter ≡ c.args.place = omega arith in
     let e : drop c.args.place (left_of c.of-edges.result) ≡ turn_at c.loop.edges ∷ here.0 = ap (λ k. drop k (left_of c.of-edges.result)) (sym at) ∙ sym c.loop.invariant.1 ∙ here.1 in
-    sym (within n s c.args.place c.if-n-eq0.false c.if-n-gt64.false
+    sym (within p c.args.n s c.args.place c.in_ok-new.ensures
     ∙ ap (λ ts. slice_get (map edge_of ts) c.args.place) (sym b)
     ∙ nth_at edge_of (left_of c.of-edges.result) c.args.place (turn_at c.loop.edges) here.0 e
     ∙ ap Some (sym c.edge.ensures))

@@ -14,7 +14,7 @@ loop-idx-init c = rw c.new-ranges.ensures (omega arith, omega arith, refl)
 
 pub loop-idx-preserved : goal.loop-idx-preserved
 loop-idx-preserved c =
-    let n : ℕ = c.args.n in
+    let n : ℕ = c.args.participants.number in
     let s : ℕ = c.args.self.boundaries in
     let i : ℕ = c.loop-idx.idx in
     let start : ℕ = c.loop-idx.start in
@@ -39,7 +39,7 @@ loop-idx-preserved c =
 
 pub returns-clause-listed : goal.returns-clause-listed
 returns-clause-listed c =
-    let n : ℕ = c.args.n in
+    let n : ℕ = c.args.participants.number in
     let s : ℕ = c.args.self.boundaries in
     let flags : List Bool = map (bit s) (range_with_len 0 (n - 1)) in
     let l : length flags ≡ n - 1 = length-map-range_with_len (bit s) 0 (n - 1) in

@@ -42,5 +42,5 @@ returns c =
     let even' : length last ≡ length (refill (length old) old mid) = c.first_splits.auto.cells ∙ ap length c.as_mut_slice-2.ensures.value in
     let more : e.leader + 1 < length old = omega (arith, c.if-self-len.false, c.len.ensures.value, long) in
     let none = rw value at c.if-next_splits.ensures.stepped in
-    subst (λ xs. Moved e (record { n = e.n; cells = record { items = xs }; leader = e.leader + 1 })) (sym (refilled (refill (length old) old mid) last even'))
+    subst (λ xs. Moved e (record { participants = e.participants; cells = record { items = xs }; leader = e.leader + 1 })) (sym (refilled (refill (length old) old mid) last even'))
     (walk_over e c.requires (record { items = last }) (c.first_splits.ensures.placed ∙ places) none more (c.first_splits.ensures.begun ∙ ap (λ rs. first_fill (e.leader + 1) 0 (sizes_of rs)) places))

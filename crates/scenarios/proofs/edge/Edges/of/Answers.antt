@@ -8,7 +8,7 @@ pub loop-start-init : goal.loop-start-init
 loop-start-init c = rw c.new-cells.ensures (put_begins c.as_slice-start-items.result.now)
 
 pub first-split-requires : goal.first-split-requires
-first-split-requires c = range_small c.args.n c.args.state.boundaries c.as_slice-start-items.result.now c.loop-start.start-index c.requires.0 c.requires.1 (c.as_slice-start-items.ensures.value ∙ c.ranges-ranges.ensures.listed) c.loop-start-test.true
+first-split-requires c = range_small c.args.participants.number c.args.state.boundaries c.as_slice-start-items.result.now c.loop-start.start-index c.args.participants.within.0 c.args.participants.within.1 (c.as_slice-start-items.ensures.value ∙ c.ranges-ranges.ensures.listed) c.loop-start-test.true
 
 pub push-requires : goal.push-requires
 push-requires c =
@@ -29,5 +29,5 @@ loop-start-preserved c =
 pub returns : goal.returns
 returns c =
     let ranges = c.as_slice-start-items.result.now in
-    walk_begins c.args.n c.args.state.boundaries ranges c.loop-start.cells c.requires.0 c.requires.1 (c.as_slice-start-items.ensures.value ∙ c.ranges-ranges.ensures.listed)
+    walk_begins c.args.participants c.args.state.boundaries ranges c.loop-start.cells (c.as_slice-start-items.ensures.value ∙ c.ranges-ranges.ensures.listed)
     (put_ends ranges c.loop-start.cells.items c.loop-start.start-index c.loop-start-test.false c.loop-start.invariant)
