@@ -1,3 +1,4 @@
+use Rattle.std.proofs.Common.{◌∙◌}
 use Rattle.scenarios.specs.Cells.{cells}
 use Rattle.sets.proofs.Campaigns.{cells_in_row, cells_whole, sets_counted}
 use Rattle.sets.proofs.Corresponding.{sets_correspond}
