@@ -1,4 +1,4 @@
-use Rattle.std.proofs.Common.{◌≡◌, ℕ, ◌≤◌, ◌||◌, eqb, ltb, ◌∷◌, map, drop, Some, sym, refl, ap, ◌∙◌, arith}
+use Rattle.std.proofs.Common.{◌≡◌, ℕ, ◌≤◌, ◌||◌, eqb, ltb, ◌∷◌, map, drop, Some, sym, ap, ◌∙◌, arith}
 use Rattle.std.specs.List.{slice_get}
 use Rattle.std.proofs.lemmas.Bool.{or_from, ne_eqb, le-ltb, cond-false}
 use Rattle.scenarios.specs.Cells.{cells}
@@ -10,12 +10,6 @@ use Rattle.scenarios.proofs.edge.edge_at.Goals as goal
 -- for so many participants there are edges
 within : (n s place : ℕ) → (n ≡ 0 → ⊥) → n ≤ 64 → edge_in n s place ≡ slice_get (map edge_of (turns (cells n s))) place
 within n s place h b = cond-false (eqb n 0 || ltb 64 n) _ _ (or_from (eqb n 0) (ltb 64 n) (ne_eqb n 0 h) (le-ltb 64 n b))
-
-pub loop-init : goal.loop-init
-loop-init c = (c.of-edges.ensures.walking, refl)
-
-pub advance-requires : goal.advance-requires
-advance-requires c = c.loop.invariant.0
 
 pub returns-then-not-advance : goal.returns-then-not-advance
 returns-then-not-advance c =
@@ -32,9 +26,6 @@ loop-preserved c =
     let m = c.if-not-advance.ensures in
     let e = sym c.loop.invariant.1 ∙ left_moved c.loop.edges c.advance.new.self c.loop.invariant.0 m in
     (m.walking, sym (drop_next (left_of c.of-edges.result) c.loop.counter (turn_at c.loop.edges) (left_of c.advance.new.self) e))
-
-pub edge-requires : goal.edge-requires
-edge-requires c = c.loop.invariant.0
 
 pub returns : goal.returns
 returns c =
