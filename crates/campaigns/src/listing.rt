@@ -10,6 +10,7 @@ use scenarios::{CountedPlan, RoundScenario};
 use sets::count_sets;
 
 // Writes a ticket for each set of one rank behind the first `len`, and answers where they end; writes none if not all fit.
+// The memory is lent, so its length in use stands beside it.
 fn put_tickets(rank: u64, count: u64, tickets: &mut [Ticket], len: usize) -> Option<usize>
     requires { len ≤ length tickets.old }
     ensures within { listings.Within result tickets.new }

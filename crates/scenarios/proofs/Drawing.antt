@@ -102,9 +102,6 @@ module _ (led : Bool) (c : ℕ) (ps : List ℕ) (d : ℕ) (t : led ≡ true) (sp
   pub led_some : 0 < length ps
   led_some = some_part c ps split'
 
-  pub led_few : length ps ≤ 5
-  led_few = omega (arith, split'.few)
-
   pub led_choice : d / 3 < choose (length (take (length ps - 1) ps))
   unfolding others
   led_choice = rw fewer (omega (arith, below'))

@@ -224,9 +224,6 @@ first_next l cs i q h e =
     take_more (first_fill l 0 cs) i [] (omega arith)
     ∙ ap (λ x. take i (first_fill l 0 cs) ++ (x ∷ [])) (first_fill_at l 0 i cs h ∙ ap (λ j. first_split (eqb j l) (get_or cs i 0)) z ∙ sym e)
 
-pub first_begins : (l : ℕ) (cs : List SplitCell) → FirstIn l cs cs 0
-first_begins l cs = record { first = refl; placed = refl }
-
 module _ (l : ℕ) (old now : List SplitCell) (i : ℕ) (d : SplitCell) (h : i < length now) (b : FirstIn l old now i) where
   same_sizes : sizes_in now ≡ sizes_in old
   same_sizes = ap (map (λ r. r.1)) b.placed

@@ -17,7 +17,6 @@ pub mod Spelling
 pub mod Celling
 pub mod Rounding
 pub mod Ranging
-pub mod Placing
 pub mod Filling
 pub mod States
 pub mod Walkings

@@ -166,10 +166,6 @@ range_at s [] i h = absurd (omega arith)
 range_at s (c ∷ cs) zero h = (omega arith, refl)
 range_at s (c ∷ cs) (suc i) h = let k = range_at (s + c) cs i (omega arith) in (omega arith, k.1)
 
-pub sizes_ranges : (s : ℕ) (cs : List ℕ) → map (λ (r : ℕ × ℕ). r.1) (ranges_from s cs) ≡ cs
-sizes_ranges s [] = refl
-sizes_ranges s (c ∷ cs) = ap (λ l. c ∷ l) (sizes_ranges (s + c) cs)
-
 pub inner_at : (cs : List ℕ) (i j : ℕ) → i < length cs → total (take i cs) ≤ j → j + 1 < total (take i cs) + get_or cs i 0 → inner cs j ≡ true
 inner_at [] i j h a b = absurd (omega arith)
 inner_at (c ∷ cs) zero j h a b = inner_below c cs j (omega arith) ∙ lt-ltb (j + 1) c (omega arith)

@@ -1,44 +1,27 @@
 -- A round read back as a turn and a number, from its cells. Assumes nothing.
-use Rattle.std.proofs.Common.{◌≡◌, ℕ, suc, ◌+◌, ◌-◌, ◌*◌, ◌%◌, ◌^◌, ◌<◌, ◌≤◌, Bool, true, false, ◌⊎◌, List, [], ◌∷◌, map, length, get_or, take, Some, sym, refl, ap, ◌∙◌, subst, inl, inr, arith}
+use Rattle.std.proofs.Common.{◌≡◌, ℕ, ◌+◌, ◌-◌, ◌*◌, ◌%◌, ◌^◌, ◌<◌, ◌≤◌, true, ◌⊎◌, List, [], ◌∷◌, map, length, get_or, take, Some, sym, refl, ap, ◌∙◌, subst, inl, inr, arith}
 use Rattle.std.specs.List.{range_with_len, flat_map, AllByRecursion}
 use Rattle.std.proofs.lemmas.Bool.{both_ways, cases_lt}
 use Rattle.std.proofs.lemmas.Nat.{one_shl}
-use Rattle.std.proofs.lemmas.List.FromFn.{length-map-range_with_len}
 use Rattle.scenarios.specs.declared.round.RoundScenario.{RoundScenario}
 use Rattle.scenarios.specs.declared.read.Tally.{Tally}
 use Rattle.scenarios.specs.Masks.{bit}
 use Rattle.scenarios.specs.Letters.{letter, round_of}
 use Rattle.scenarios.specs.Turns.{weight, after, round}
-use Rattle.scenarios.specs.Cells.{total, CellsOf, cut, cells, ends, boundaries, inner, ranges_from}
+use Rattle.scenarios.specs.Cells.{total, CellsOf, cells, ends, boundaries, inner, ranges_from}
 use Rattle.scenarios.specs.Canonical.{LegalRound}
 use Rattle.scenarios.specs.Claims.{Ordered}
 use Rattle.scenarios.specs.Edges.{sizes_of}
 use Rattle.scenarios.specs.Readings.{Told, LedRanges, CellsRefused, ends_at, RoundRead}
 use Rattle.scenarios.proofs.Lettering.{heard_role, round_letters}
 use Rattle.scenarios.proofs.Parting.{inner_past}
-use Rattle.scenarios.proofs.RoundsBack.{range_at, sizes_ranges, total_mono, total_more, inner_else, fill_filled}
-
--- the cells of a state
-
-cut_cells : (size : ℕ) (bs : List Bool) → 0 < size → AllByRecursion (λ c. 0 < c) (cut size bs) × (total (cut size bs) ≡ size + length bs)
-cut_cells size [] h = ((h, tt), refl)
-cut_cells size (true ∷ bs) h = let k = cut_cells 1 bs (omega arith) in ((h, k.0), omega (arith, k.1))
-cut_cells size (false ∷ bs) h = let k = cut_cells (size + 1) bs (omega arith) in (k.0, omega (arith, k.1))
-
-pub cells_whole : (n s : ℕ) → 0 < n → CellsOf n (cells n s)
-unfolding cells
-cells_whole n s h =
-    let k = cut_cells 1 (map (bit s) (range_with_len 0 (n - 1))) (omega arith) in
-    let l = length-map-range_with_len (bit s) 0 (n - 1) in
-    record { filled = k.0; whole = omega (arith, k.1) }
-
-length_ranges : (s : ℕ) (cs : List ℕ) → length (ranges_from s cs) ≡ length cs
-length_ranges s [] = refl
-length_ranges s (c ∷ cs) = ap suc (length_ranges (s + c) cs)
+use Rattle.scenarios.proofs.States.{cells_stand}
+use Rattle.scenarios.proofs.Walkings.{sizes_ranges, length_ranges}
+use Rattle.scenarios.proofs.RoundsBack.{range_at, total_mono, total_more, inner_else, fill_filled}
 
 module _ (n s : ℕ) (r : RoundScenario) (rs : List (ℕ × ℕ)) (some : 0 < n) (most : n ≤ 64) (listed : rs ≡ ranges_from 0 (cells n s)) (legal : LegalRound n r) where
   whole : CellsOf n (cells n s)
-  whole = cells_whole n s some
+  whole = cells_stand n s some
 
   sizes_are : sizes_of rs ≡ cells n s
   sizes_are = ap (map (λ (x : ℕ × ℕ). x.1)) listed ∙ sizes_ranges 0 (cells n s)

@@ -2,7 +2,7 @@
 use Rattle.std.proofs.Common.{◌≡◌, ℕ, suc, ◌+◌, ◌-◌, ◌<◌, ◌≤◌, Bool, true, false, ltb, List, [], ◌∷◌, ◌++◌, map, length, get_or, take, Some, None, Option, sym, refl, ap, ◌∙◌, subst, arith}
 use Rattle.std.specs.List.{AllByRecursion, range_with_len, refill}
 use Rattle.std.proofs.lemmas.List.{append-nil, drop_all, take_all, length-map, get_or-map}
-use Rattle.std.proofs.lemmas.Bool.{lt-ltb, le-ltb, cond-true, cond-false}
+use Rattle.std.proofs.lemmas.Bool.{lt-ltb, cond-true}
 use Rattle.arrayvec.specs.ArrayVec.{ArrayVec}
 use Rattle.scenarios.specs.declared.participants.Participants.{Participants}
 use Rattle.scenarios.specs.declared.edge.SplitCell.{SplitCell}
@@ -92,17 +92,11 @@ module _ (e : Edges) (w : Walking e) where
   long_cells : length (cells_at e) ≡ length e.cells.items
   long_cells = cells_long e.cells.items
 
-  pub walk_leads : e.leader < length e.cells.items
-  walk_leads = omega (arith, w.fits.leads, long_cells)
-
   pub walk_some : 1 ≤ e.participants.number
   walk_some =
       let some = All-get_or (λ c. 0 < c) (cells_at e) 0 0 (omega (arith, long_cells, w.some)) w.whole.filled in
       let most = part_most (cells_at e) 0 in
       omega (arith, w.whole.whole)
-
-  pub walk_stays : next_fill e.leader 0 (cells_at e) (fill_in e.cells.items) ≡ None → length e.cells.items ≤ e.leader + 1 → next_turn (cells_at e) (turn_at e) ≡ None
-  walk_stays n h = stepped (cells_at e) e.leader (fill_in e.cells.items) None n ∙ cond-false (ltb (e.leader + 1) (length (cells_at e))) _ _ (le-ltb (e.leader + 1) (length (cells_at e)) (omega (arith, long_cells)))
 
   module _ (cs : ArrayVec SplitCell) (placed : ranges_in cs.items ≡ ranges_in e.cells.items) where
     same : sizes_in cs.items ≡ cells_at e

@@ -42,7 +42,8 @@ const ZERO: Slot = Entry {
 };
 
 // Notes a place behind those that the first `len` slots hold, unless it is among them.
-// The answer is how many slots are in use then, or None where no slot is left for it.
+// The answer is how many slots are in use then, or None where no slot is left for it. The slots are lent, so the number in use
+// stands beside them here and below.
 fn note_place(slots: &mut [Slot], len: usize, place: Place) -> Option<usize>
     ensures { (ps : List Place) (xs : List counts.Slot) → slot.Holds ps len xs slots.old → slot.Kept (counts.note counts.same_place ps place) xs result slots.new }
 {
@@ -99,6 +100,7 @@ fn note_layer(
     ensures { (ps : List Place) (xs : List counts.Slot) → slot.Holds ps len xs slots.old → slot.Kept (counts.noted counts.same_place ps (flat_map (slot.afters participants.number depth) (drop from ps))) xs result slots.new }
 {
     let mut used = len;
+    // By index, since the slots behind fill up meanwhile.
     for i in from..len {
         used = note_nexts(participants, depth, slots[i].key, slots, used)?;
     }
@@ -166,6 +168,7 @@ fn settle(participants: Participants, rounds: usize, slots: &mut [Slot], len: us
     requires { len ≤ length slots.old }
     ensures { (xs : List counts.Slot) → slot.Holds (counts.places participants.number rounds) len xs slots.old → slot.SettledOr participants.number rounds len xs result slots.new }
 {
+    // By index, since each count is made from those behind it in the same slots.
     for i in (0..len).rev() {
         let place = slots[i].key;
         slots[i].value = sum_nexts(participants, rounds, slots, len, place)?;

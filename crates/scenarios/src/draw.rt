@@ -11,7 +11,6 @@ ghost use Rattle.scenarios.specs.Edges.{turn_at, Walking};
 
 use crate::edge::{Edges, SplitCell};
 use crate::mask::set_mask_range;
-use crate::refinement::LocalRefinement;
 use crate::role::{Role, roles_from_rank};
 use crate::round::RoundScenario;
 
@@ -67,22 +66,15 @@ fn draw_parts(
     drawn
 }
 
-// The round with the cell of `size`, from `start` on, in the way `digit` of its split. A leader is the last member of
-// its cell.
-fn draw_cell(
-    round: RoundScenario,
-    start: usize,
-    size: usize,
-    split: LocalRefinement,
-    led: bool,
-    digit: u64,
-) -> RoundScenario
-    requires below { Below start round }
-    requires whole { Split led size (sizes split) }
-    requires within { start + size ≤ 64 }
-    requires choice { digit < ways led (sizes split) }
-    ensures { result ≡ grown round start (spell (sizes split) (tones led (sizes split) digit)) }
+// The round with a cell in the way `digit` of its split. A leader is the last member of its cell.
+fn draw_cell(round: RoundScenario, cell: SplitCell, led: bool, digit: u64) -> RoundScenario
+    requires below { Below cell.start round }
+    requires whole { Split led cell.size (sizes cell.split) }
+    requires within { cell.start + cell.size ≤ 64 }
+    requires choice { digit < ways led (sizes cell.split) }
+    ensures { result ≡ grown round cell.start (spell (sizes cell.split) (tones led (sizes cell.split) digit)) }
 {
+    let SplitCell { start, size, split } = cell;
     let parts = split.sizes();
     if !led {
         return draw_parts(round, start, parts, roles_from_rank(parts.len(), digit));
@@ -109,10 +101,9 @@ pub(crate) fn round_at(edges: &Edges, rank: u128) -> RoundScenario
     };
     let mut left = rank;
     for (i, cell) in cells.iter().enumerate() {
-        let SplitCell { start, size, split } = *cell;
         let led = i == edges.leader;
-        let space = split.multiplicity(led) as u128;
-        drawn = draw_cell(drawn, start, size, split, led, (left % space) as u64);
+        let space = cell.split.multiplicity(led) as u128;
+        drawn = draw_cell(drawn, *cell, led, (left % space) as u64);
         left /= space;
     }
     drawn

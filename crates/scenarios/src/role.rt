@@ -70,6 +70,7 @@ fn kth_mask(len: usize, rank: u64) -> Option<u8>
 {
     let mut mask: u8 = 0;
     let mut left = rank;
+    // A search over the sixteen masks that stops at the one wanted.
     loop {
         if mask == 16 {
             break None;

@@ -29,7 +29,7 @@ multiplicity-space-requires c =
     let here = c.index-cells-i.is ∙ ap (λ xs. get_or xs c.loop-i.i x) value in
     some_refined (eqb c.loop-i.i e.leader) _ x.split (split_here e c.requires.walking c.loop-i.i x here (omega (arith, c.loop-i-test.true, ap length value)))
 
-digit : (c : goal.After-multiplicity-space) → (0 < c.multiplicity-space.result) × (c.loop-i.left % c.multiplicity-space.result < 18)
+digit : (c : goal.After-draw_cell-arg-1) → (0 < c.multiplicity-space.result) × (c.loop-i.left % c.multiplicity-space.result < 18)
 digit c =
     let e = c.args.edges.now in
     let x = c.index-cells-i.result in

@@ -7,11 +7,6 @@ overflow_add-end c =
     let s = end_step c.args.mask c.args.start c.args.parts.now c.loop-part.part-index c.loop-part.end c.loop-part.out (omega arith) c.requires.filled c.requires.within c.loop-part.invariant.0 c.loop-part.invariant.1 c.loop-part.invariant.2 in
     omega arith
 
-pub overflow_sub-end : goal.overflow_sub-end
-overflow_sub-end c =
-    let s = end_step c.args.mask c.args.start c.args.parts.now c.loop-part.part-index c.loop-part.end c.loop-part.out (omega arith) c.requires.filled c.requires.within c.loop-part.invariant.0 c.loop-part.invariant.1 c.loop-part.invariant.2 in
-    omega arith
-
 pub set_mask_range-out-requires : goal.set_mask_range-out-requires
 set_mask_range-out-requires c =
     let s = end_step c.args.mask c.args.start c.args.parts.now c.loop-part.part-index c.loop-part.end c.loop-part.out (omega arith) c.requires.filled c.requires.within c.loop-part.invariant.0 c.loop-part.invariant.1 c.loop-part.invariant.2 in

@@ -1,4 +1,4 @@
-use Rattle.std.proofs.Common.{◌≡◌, ℕ, ◌<◌, ◌||◌, eqb, ltb, ◌∷◌, map, drop, Some, sym, refl, ap, ◌∙◌, subst, arith}
+use Rattle.std.proofs.Common.{◌≡◌, ℕ, ◌<◌, ◌||◌, eqb, ltb, ◌∷◌, map, drop, Some, sym, ap, ◌∙◌, subst, arith}
 use Rattle.std.specs.List.{slice_get}
 use Rattle.std.proofs.lemmas.Bool.{or_from, ne_eqb, le-ltb, cond-false}
 use Rattle.scenarios.specs.declared.participants.Participants.{Participants}
@@ -18,12 +18,6 @@ within p n s place e =
     subst (λ m. edge_in m s place ≡ slice_get (map edge_of (turns (cells k s))) place) e
     (cond-false (eqb k 0 || ltb 64 k) _ _ (or_from (eqb k 0) (ltb 64 k) (ne_eqb k 0 (some k p.within.0)) (le-ltb 64 k p.within.1)))
 
-pub loop-init : goal.loop-init
-loop-init c = (c.of-edges.ensures.walking, refl)
-
-pub advance-requires : goal.advance-requires
-advance-requires c = c.loop.invariant.0
-
 pub returns-then-not-advance : goal.returns-then-not-advance
 returns-then-not-advance c =
     let p = c.in_ok-new.field-0 in
@@ -39,9 +33,6 @@ loop-preserved c =
     let m = c.if-not-advance.ensures in
     let e = sym c.loop.invariant.1 ∙ left_moved c.loop.edges c.advance.new.self c.loop.invariant.0 m in
     (m.walking, sym (drop_next (left_of c.of-edges.result) c.loop.counter (turn_at c.loop.edges) (left_of c.advance.new.self) e))
-
-pub edge-requires : goal.edge-requires
-edge-requires c = c.loop.invariant.0
 
 pub returns : goal.returns
 returns c =

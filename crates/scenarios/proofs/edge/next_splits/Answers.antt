@@ -1,9 +1,6 @@
 use Rattle.std.proofs.Common.{arith}
-use Rattle.scenarios.proofs.Filling.{back_begins, back_ends, step_split, step_small, step_some, step_placed, step_none}
+use Rattle.scenarios.proofs.Filling.{step_split, step_small, step_some, step_placed, step_none}
 use Rattle.scenarios.proofs.edge.next_splits.Goals as goal
-
-pub loop-i-init : goal.loop-i-init
-loop-i-init c = back_begins c.args.leader c.args.cells.now
 
 pub next-requires : goal.next-requires
 next-requires c = record {
@@ -22,9 +19,3 @@ first-cell-requires c = (step_small c.args.leader c.args.cells.now c.loop-i.cell
 
 pub loop-i-preserved : goal.loop-i-preserved
 loop-i-preserved c = step_none c.args.leader c.args.cells.now c.loop-i.cells c.loop-i.i _ (omega arith) (omega arith) c.loop-i.invariant c.first-cell.result c.in-None.ensures c.first-cell.ensures
-
-pub returns : goal.returns
-returns c = record {
-  stepped = back_ends c.args.leader c.args.cells.now c.loop-i.cells c.loop-i.i (omega arith) c.loop-i.invariant;
-  placed = c.loop-i.invariant.placed;
-}

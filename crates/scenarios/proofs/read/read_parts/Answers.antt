@@ -3,17 +3,17 @@ use Rattle.std.proofs.lemmas.List.FromFn.{length-map-range_with_len}
 use Rattle.scenarios.specs.Letters.{role}
 use Rattle.scenarios.specs.Roles.{number}
 use Rattle.scenarios.specs.Readings.{PartsRead}
-use Rattle.scenarios.proofs.ReadingBack.{read_none, read_again, read_more, parts_fall}
+use Rattle.scenarios.proofs.ReadingBack.{read_none, read_more, parts_fall}
 use Rattle.scenarios.proofs.read.read_parts.Goals as goal
 
 pub loop-idx-init : goal.loop-idx-init
 loop-idx-init c = read_none c.args.round.now c.args.start
 
-pub read_member-requires : goal.read_member-requires
-read_member-requires c =
+pub read_member-requires-clause-below : goal.read_member-requires-clause-below
+read_member-requires-clause-below c =
     let inv = c.loop-idx.invariant in
     let long = ap length inv.spells ∙ length-map-range_with_len (role c.args.round.now) c.args.start (c.loop-idx.idx - c.args.start) in
-    record { whole = read_again c.loop-idx.reading _ inv; below = omega (arith, c.requires) }
+    omega (arith, c.requires)
 
 pub returns-in_err-reading : goal.returns-in_err-reading
 returns-in_err-reading c =

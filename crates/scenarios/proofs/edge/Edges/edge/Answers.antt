@@ -1,8 +1,7 @@
 use Rattle.std.proofs.Common.{◌≡◌, ◌+◌, ◌*◌, ◌^◌, ◌<◌, ◌≤◌, eqb, length, get_or, ap, ◌∙◌, arith}
 use Rattle.scenarios.specs.Cells.{ends}
 use Rattle.scenarios.proofs.Drawing.{range_within, split_here, some_refined}
-use Rattle.scenarios.proofs.Edging.{Summed, summed_none, below_here, summed_more, summed_fits, summed_weight, summed_next}
-use Rattle.scenarios.proofs.Walkings.{walk_some}
+use Rattle.scenarios.proofs.Edging.{Summed, below_here, summed_more, summed_fits, summed_weight, summed_next}
 use Rattle.scenarios.proofs.edge.Edges.edge.Goals as goal
 
 here : (c : goal.After-sizes) → c.cell-item.result ≡ get_or c.args.self.now.cells.items c.loop-i.i c.cell-item.result
@@ -10,9 +9,6 @@ here c = c.cell-item.is ∙ ap (λ xs. get_or xs c.loop-i.i c.cell-item.result) 
 
 within : (c : goal.After-sizes) → c.loop-i.i < length c.args.self.now.cells.items
 within c = omega (arith, c.loop-i-test.true, ap length c.as_slice-cell-items.ensures.value)
-
-pub loop-i-init : goal.loop-i-init
-loop-i-init c = summed_none c.args.self.now
 
 pub add_local_boundaries-ends-requires : goal.add_local_boundaries-ends-requires
 add_local_boundaries-ends-requires c =
@@ -50,9 +46,6 @@ overflow_mul-multiplicity c =
 
 pub loop-i-preserved : goal.loop-i-preserved
 loop-i-preserved c = again c
-
-pub overflow_sub-boundaries : goal.overflow_sub-boundaries
-overflow_sub-boundaries c = walk_some c.args.self.now c.requires
 
 pub returns : goal.returns
 returns c =

@@ -1,21 +1,11 @@
-use Rattle.std.proofs.Common.{◌≡◌, ◌<◌, ◌≤◌, eqb, length, get_or, refl, ap, ◌∙◌, arith}
+use Rattle.std.proofs.Common.{◌≡◌, eqb, length, get_or, refl, ap, ◌∙◌, arith}
 use Rattle.scenarios.specs.Steps.{first_split}
-use Rattle.scenarios.proofs.Filling.{put_begins, put_long, put_more, put_ends}
+use Rattle.scenarios.proofs.Filling.{put_long, put_more, put_ends}
 use Rattle.scenarios.proofs.Walkings.{range_small, walk_begins}
 use Rattle.scenarios.proofs.edge.Edges.of.Goals as goal
 
-pub loop-start-init : goal.loop-start-init
-loop-start-init c = rw c.new-cells.ensures (put_begins c.as_slice-start-items.result.now)
-
 pub first-split-requires : goal.first-split-requires
 first-split-requires c = range_small c.args.participants.number c.args.state.boundaries c.as_slice-start-items.result.now c.loop-start.start-index c.args.participants.within.0 c.args.participants.within.1 (c.as_slice-start-items.ensures.value ∙ c.ranges-ranges.ensures.listed) c.loop-start-test.true
-
-pub push-requires : goal.push-requires
-push-requires c =
-    let long : length c.loop-start.cells.items ≡ c.loop-start.start-index = put_long c.as_slice-start-items.result.now c.loop-start.cells.items c.loop-start.start-index (omega arith) c.loop-start.invariant in
-    let most : length c.as_slice-start-items.result.now ≤ 64 = c.as_slice-start-items.ensures.fits in
-    let h : length c.loop-start.cells.items < 64 = omega (arith, c.loop-start-test.true) in
-    (omega arith, h)
 
 pub loop-start-preserved : goal.loop-start-preserved
 loop-start-preserved c =
