@@ -1,7 +1,7 @@
 -- Unranking, one round after the other.
-use Rattle.std.proofs.Common.{◌≡◌, ℕ, zero, suc, ◌+◌, ◌-◌, ◌*◌, ◌/◌, ◌%◌, ◌^◌, ◌<◌, ◌≤◌, List, [], ◌∷◌, ◌++◌, length, take, drop, set, None, sym, refl, ap, ◌∙◌, subst, arith}
+use Rattle.std.proofs.Common.{◌≡◌, ℕ, zero, suc, ◌+◌, ◌-◌, ◌*◌, ◌/◌, ◌%◌, ◌^◌, ◌<◌, ◌≤◌, List, [], ◌∷◌, ◌++◌, take, drop, None, sym, refl, ap, ◌∙◌, subst, arith}
 use Rattle.std.proofs.lemmas.Nat.{mul-le}
-use Rattle.std.proofs.lemmas.List.{take_more_set, append_assoc, append-nil, take-append-drop, drop-set-lt, drop-drop}
+use Rattle.std.proofs.lemmas.List.{append-nil, take-append-drop}
 use Rattle.scenarios.specs.declared.round.RoundScenario.{RoundScenario}
 use Rattle.scenarios.specs.declared.unrank.Step.{Step}
 use Rattle.scenarios.specs.Cells.{cells, boundaries}
@@ -73,23 +73,6 @@ pub record Unranked (n R rank : ℕ) (old ws : List RoundScenario) (i s left : �
   pub rounds_are : take i ws ++ scenario (R - i) (cells n s) left ≡ scenario R (n ∷ []) rank
   pub cells_are : residual (R - i) (cells n s) left ≡ residual R (n ∷ []) rank
   pub kept : drop i ws ≡ drop i old
-
-pub unranked_more : (n R rank : ℕ) (old ws : List RoundScenario) (i s left : ℕ) (x : Step) → i < R → i < length ws → Unranked n R rank old ws i s left → Stepped n R i s left x
-    → Unranked n R rank old (set ws i x.round) (i + 1) x.next.boundaries x.left
-unranked_more n R rank old ws i s left x l k u st =
-    let r = R - (i + 1) in
-    let rest = scenario r (cells n x.next.boundaries) x.left in
-    record {
-      layered = st.layered;
-      below = st.below;
-      rounds_are =
-          ap (λ w. w ++ rest) (take_more_set ws i x.round k) ∙ append_assoc (take i ws) (x.round ∷ []) rest
-          ∙ ap (λ y. take i ws ++ y) (sym st.rounds_are) ∙ u.rounds_are;
-      cells_are = sym st.cells_are ∙ u.cells_are;
-      kept =
-          drop-set-lt (i + 1) ws i x.round (omega arith)
-          ∙ sym (drop-drop 1 i ws) ∙ ap (drop 1) u.kept ∙ drop-drop 1 i old;
-    }
 
 -- the walk stands at an edge, with v continuations behind it
 

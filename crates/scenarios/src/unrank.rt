@@ -58,9 +58,9 @@ impl SuffixCounts<'_> {
     {
         let mut state = CellState::initial();
         let mut left = rank;
-        for i in 0..self.rounds {
-            let step = self.first_round(i, state, left);
-            out[i] = step.round;
+        for (depth, round) in out[..self.rounds].iter_mut().enumerate() {
+            let step = self.first_round(depth, state, left);
+            *round = step.round;
             state = step.next;
             left = step.left;
         }
