@@ -12,7 +12,7 @@ mod tests {
     use table::Entry;
     use words::{Source, SplitMix64, Tape};
 
-    // The number of the refusal, where there is one.
+    // The number of the refusal, where there is one: the numbers are part of the product. The tests share no crate for this line.
     fn refused<T: Drop>(answer: Result<T, Refusal>) -> Option<u8> {
         answer.err().map(|refusal| refusal.number())
     }

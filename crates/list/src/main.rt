@@ -26,7 +26,8 @@ const TEXT: u64 = 64;
 // How many states the count memory holds.
 const SLOTS: usize = 2000;
 
-// The plan that a text writes, unless the text is no plan line or its numbers break a rule.
+// The plan that a text writes, unless the text is no plan line or its numbers break a rule. A conversion by trait would only stand
+// around this one call.
 fn plan_in(text: &[u8]) -> Result<Plan, Refusal>
     ensures { elim result [ Ok p ↦ Planned text.now p | Err e ↦ Unplanned text.now e ] }
 {

@@ -56,7 +56,7 @@ impl fmt::Display for Line<'_> {
     }
 }
 
-// Why there is no listing.
+// Why there is no listing, in the form of this program; a refusal has no text of its own.
 #[derive(Clone, Copy)]
 pub(crate) struct Refused {
     pub(crate) refusal: Refusal,

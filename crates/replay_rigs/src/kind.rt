@@ -71,6 +71,7 @@ impl Question for Kind {
         }
     }
 
+    // The kind itself says how it is asked, and nothing else is chosen by it.
     fn agrees(
         self,
         words: &mut SplitWhitespace<'_>,

@@ -53,6 +53,7 @@ impl CellState {
         let n = participants.number;
         let mut ranges = ArrayVec::new();
         let mut start: usize = 0;
+        // Participants are numbers, and no list of them is there to go over.
         for idx in 0..n - 1 {
             if self.boundary_after(idx) {
                 ranges.push((start, idx + 1 - start));

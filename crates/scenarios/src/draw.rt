@@ -14,7 +14,8 @@ use crate::mask::set_mask_range;
 use crate::role::{Role, roles_from_rank};
 use crate::round::RoundScenario;
 
-// The round with each participant of `[start, start + len)` in this role.
+// The round with each participant of `[start, start + len)` in this role. Each caller has at hand that the round is drawn below
+// `start`, so a type for a round and a place would only be built and taken apart.
 fn apply_role(round: RoundScenario, start: usize, len: usize, role: Role) -> RoundScenario
     requires below { Below start round }
     requires within { start + len ≤ 64 }

@@ -17,7 +17,8 @@ use crate::refinement::LocalRefinement;
 use crate::role::Role;
 use crate::round::RoundScenario;
 
-// The parts of a cell that have a role, the first `len` of them, and the mask of their roles.
+// The parts of a cell that have a role, the first `len` of them, and the mask of their roles. Five sizes are passed by value, as
+// everywhere.
 #[derive(Clone, Copy)]
 struct Reading {
     parts: [usize; 5],
@@ -93,6 +94,7 @@ fn read_parts(round: &RoundScenario, start: usize, len: usize) -> Option<Reading
         len: 0,
         roles: 0,
     };
+    // Participants are numbers, and no list of them is there to go over.
     for idx in start..start + len {
         reading = read_member(reading, role_of(round, idx))?;
     }

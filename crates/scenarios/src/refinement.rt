@@ -3,7 +3,7 @@ ghost use Rattle.std.specs.Prelude.{◌≤◌};
 
 use crate::role::role_subset_count;
 
-// The sizes of the parts of a cell, the first `len` of them.
+// The sizes of the parts of a cell, the first `len` of them. Five sizes cost less to pass by value than to lend.
 #[derive(Clone, Copy, PartialEq, Eq, Debug)]
 pub(crate) struct LocalRefinement {
     pub(crate) parts: [usize; 5],

@@ -6,7 +6,8 @@
 ghost use Rattle.std.specs.Prelude.{◌≡◌, ℕ, min, List, [], ◌∷◌, length, Decides};
 ghost use Rattle.table.specs.Places.{Place, AddedAs};
 
-// A key stands for a list of numbers, and two keys are the same exactly if their lists are.
+// A key stands for a list of numbers, and two keys are the same exactly if their lists are. `==` promises nothing of meanings, so
+// each kind says `same` for itself.
 pub trait Key: Copy {
     ghost meaning: { Self → List ℕ };
 

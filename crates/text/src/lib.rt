@@ -54,7 +54,7 @@ fn read_numeral(bytes: &[u8]) -> Option<u32>
     Some(n)
 }
 
-// The mode that a byte stands for.
+// The mode that a byte stands for, told by its letter.
 fn mode_letter(b: u8) -> Option<Mode>
     ensures { result ≡ lines.mode_of b }
 {

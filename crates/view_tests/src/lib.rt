@@ -14,7 +14,7 @@ mod tests {
     use terms::TermLength;
     use views::{Scenario, Seat, SplitTarget, view_partitions, view_route};
 
-    // The number of the refusal, where there is one.
+    // The number of the refusal, where there is one: the numbers are part of the product. The tests share no crate for this line.
     fn refused<T: Drop>(answer: Result<T, Refusal>) -> Option<u8> {
         answer.err().map(|refusal| refusal.number())
     }

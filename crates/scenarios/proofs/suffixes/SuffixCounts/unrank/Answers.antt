@@ -19,8 +19,7 @@ returns c =
     let same : length c.loop-depth.round-items ≡ length (take R out) = c.loop-depth.auto.round-items in
     let at : c.loop-depth.depth ≡ R = omega (arith, c.loop-depth-test.false, c.loop-depth.auto.depth-end) in
     let all = unranked_all n R c.args.rank (take R out) c.loop-depth.round-items c.loop-depth.depth c.loop-depth.state.boundaries c.loop-depth.left k.participants.within.0 at c.loop-depth.invariant in
-    let none : drop R (take R out) ≡ [] = drop_all R (take R out) (omega arith) in
-    (
+    let none : drop R (take R out) ≡ [] = drop_all R (take R out) (omega arith) in (
       ap (λ l. l ++ drop R out) (all.0 ∙ ap (λ l. scenario R (n ∷ []) c.args.rank ++ l) none ∙ append-nil (scenario R (n ∷ []) c.args.rank)),
       all.1,
     )
