@@ -56,9 +56,6 @@ left_more whole all ps p roles xs x at old new a r before e = record {
     l : Left whole (p ∷ ps) (x ∷ xs) at old
     l = subst (λ ys. Left whole (p ∷ ps) ys at old) r (subst (λ ys. Left whole ys roles at old) a before)
 
-pub left_none : (whole : RoundScenario) (roles : List Role) (at : ℕ) (drawn : RoundScenario) → Left whole [] roles at drawn → drawn ≡ whole
-left_none whole roles at drawn l = sym (grown_none drawn at) ∙ l.comes
-
 -- the next part ends within what the first k parts hold
 pub part_within : (ps : List ℕ) (j k : ℕ) → j < k → k ≤ length ps → total (take j ps) + get_or ps j 0 ≤ total (take k ps)
 part_within (p ∷ ps) zero (suc k) h l = omega arith

@@ -1,5 +1,5 @@
 -- The edge at which a walk stands, summed up cell by cell.
-use Rattle.std.proofs.Common.{◌≡◌, ℕ, ◌+◌, ◌-◌, ◌*◌, ◌%◌, ◌^◌, ◌<◌, ◌≤◌, eqb, List, [], ◌++◌, length, get_or, take, sym, refl, ap, ◌∙◌, subst, arith}
+use Rattle.std.proofs.Common.{◌≡◌, ℕ, ◌+◌, ◌-◌, ◌*◌, ◌%◌, ◌^◌, ◌<◌, ◌≤◌, eqb, List, [], ◌++◌, length, get_or, take, sym, ap, ◌∙◌, subst, arith}
 use lib.Bits.{bit_and}
 use Rattle.std.specs.List.{flat_map, AllByRecursion}
 use Rattle.std.proofs.lemmas.Nat.{and_mask, one_shl}
@@ -31,9 +31,6 @@ front_more : (f : List (List ℕ)) (i : ℕ) → i < length f → flat_map (λ p
 front_more f i h =
     ap (flat_map (λ ps. ps)) (take_more f i [] h)
     ∙ sym (flat_map_more (λ ps. ps) [] (take i f) (get_or f i []))
-
-pub summed_none : (e : Edges) → Summed e 0 0 1
-summed_none e = record { whole = refl; filled = tt; ended = refl; weighs = refl }
 
 module _ (e : Edges) (w : Walking e) (i mask multiplicity : ℕ) (s : Summed e i mask multiplicity) where
   pub summed_below : mask < 2 ^ total (take i (cells_at e))

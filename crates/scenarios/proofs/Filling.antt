@@ -158,15 +158,6 @@ pub record BackIn (l : ℕ) (old now : List SplitCell) (i : ℕ) : Type 0 where
   pub back : Back l (sizes_in old) (fill_in old) (fill_in now) i
   pub placed : ranges_in now ≡ ranges_in old
 
-pub back_begins : (l : ℕ) (cs : List SplitCell) → BackIn l cs cs (length cs)
-back_begins l cs = record {
-  back = subst (Back l (sizes_in cs) (fill_in cs) (fill_in cs)) (cells_long cs) (back_start l (sizes_in cs) (fill_in cs) (fill_long cs ∙ sym (cells_long cs)));
-  placed = refl;
-}
-
-pub back_ends : (l : ℕ) (old now : List SplitCell) (i : ℕ) → i ≤ 0 → BackIn l old now i → next_fill l 0 (sizes_in old) (fill_in old) ≡ None
-back_ends l old now i h b = subst (λ k. next_fill l k (drop k (sizes_in old)) (drop k (fill_in old)) ≡ None) (let e : i ≡ 0 = omega arith in e) b.back.none
-
 module _ (l : ℕ) (old now : List SplitCell) (k : ℕ) (d : SplitCell) (some : 0 < k) (h : k - 1 < length now) (b : BackIn l old now k) where
   back : Back l (sizes_in old) (fill_in old) (fill_in now) (k - 1 + 1)
   back = subst (Back l (sizes_in old) (fill_in old) (fill_in now)) (let e : k ≡ k - 1 + 1 = omega arith in e) b.back
@@ -249,9 +240,6 @@ first_ends l old now i h e b =
 pub record PutIn (ranges : List (ℕ × ℕ)) (cs : List SplitCell) (i : ℕ) : Type 0 where
   pub first : fill_in cs ≡ take i (first_fill 0 0 (sizes_of ranges))
   pub placed : ranges_in cs ≡ take i ranges
-
-pub put_begins : (ranges : List (ℕ × ℕ)) → PutIn ranges [] 0
-put_begins ranges = record { first = refl; placed = refl }
 
 pub put_long : (ranges : List (ℕ × ℕ)) (cs : List SplitCell) (i : ℕ) → i ≤ length ranges → PutIn ranges cs i → length cs ≡ i
 put_long ranges cs i h p = sym (ranges_long cs) ∙ ap length p.placed ∙ length-take-le i ranges h

@@ -1,10 +1,9 @@
 -- The step to the next composition, as the code writes it into an array of five.
-use Rattle.std.proofs.Common.{◌≡◌, ℕ, zero, suc, ◌+◌, ◌-◌, ◌<◌, ◌≤◌, true, List, [], ◌∷◌, length, get_or, take, set, Some, None, Option, refl, ap, ◌∙◌, arith}
+use Rattle.std.proofs.Common.{◌≡◌, ℕ, zero, suc, ◌+◌, ◌-◌, ◌<◌, ◌≤◌, List, [], ◌∷◌, length, get_or, take, set, Some, refl, arith}
 use Rattle.std.specs.List.{AllByRecursion}
-use Rattle.std.proofs.lemmas.List.{length-take-le, take-take}
 use Rattle.std.proofs.lemmas.Bool.Decides.{nat_tests}
 use Rattle.scenarios.specs.Cells.{total}
-use Rattle.scenarios.specs.Steps.{next_composition, next_split, with_leader}
+use Rattle.scenarios.specs.Steps.{next_composition}
 use Rattle.scenarios.specs.Refinements.{LastAbove}
 use Rattle.scenarios.proofs.Composing.{next_composition_one, next_composition_two, next_composition_three, next_composition_four}
 
@@ -52,31 +51,6 @@ opened_five a b c d e (suc (suc (suc zero))) l p h k =
     let b1 : b ≡ 1 = omega arith in let c1 : c ≡ 1 = omega arith in rw (next_composition_three a b c p.1.0 p.1.1.0) (grind (arith, nat_tests))
 opened_five a b c d e (suc (suc (suc (suc len)))) l p h k = absurd (omega arith)
 
--- four parts, of which no other than the first is above 1; or none at all
-closed_five : (a b c d e len : ℕ) → len ≤ 4 → AllByRecursion (λ p. 0 < p) (take len (a ∷ b ∷ c ∷ d ∷ e ∷ [])) → LastAbove (take len (a ∷ b ∷ c ∷ d ∷ e ∷ [])) (Some 0) → 4 ≤ len
-    → next_composition (take len (a ∷ b ∷ c ∷ d ∷ e ∷ [])) ≡ None
-closed_five a b c d e zero l p h k = absurd (omega arith)
-closed_five a b c d e (suc zero) l p h k = absurd (omega arith)
-closed_five a b c d e (suc (suc zero)) l p h k = absurd (omega arith)
-closed_five a b c d e (suc (suc (suc zero))) l p h k = absurd (omega arith)
-closed_five a b c d e (suc (suc (suc (suc zero)))) l p h k =
-    let u : b ≤ 1 = h.2 1 (omega arith) (omega arith) in let v : c ≤ 1 = h.2 2 (omega arith) (omega arith) in let w : d ≤ 1 = h.2 3 (omega arith) (omega arith) in
-    rw (next_composition_four a b c d p.1.1.0 p.1.1.1.0) (grind (arith, nat_tests))
-closed_five a b c d e (suc (suc (suc (suc (suc len))))) l p h k = absurd (omega arith)
-
-ended_five : (a b c d e len : ℕ) → len ≤ 4 → AllByRecursion (λ p. 0 < p) (take len (a ∷ b ∷ c ∷ d ∷ e ∷ [])) → LastAbove (take len (a ∷ b ∷ c ∷ d ∷ e ∷ [])) None
-    → next_composition (take len (a ∷ b ∷ c ∷ d ∷ e ∷ [])) ≡ None
-ended_five a b c d e zero l p h = refl
-ended_five a b c d e (suc zero) l p h = let t : a ≤ 1 = h 0 (omega arith) in rw (next_composition_one a) (grind (arith, nat_tests))
-ended_five a b c d e (suc (suc zero)) l p h =
-    let t : a ≤ 1 = h 0 (omega arith) in let u : b ≤ 1 = h 1 (omega arith) in rw (next_composition_two a b p.1.0) (grind (arith, nat_tests))
-ended_five a b c d e (suc (suc (suc zero))) l p h =
-    let t : a ≤ 1 = h 0 (omega arith) in let u : b ≤ 1 = h 1 (omega arith) in let v : c ≤ 1 = h 2 (omega arith) in rw (next_composition_three a b c p.1.0 p.1.1.0) (grind (arith, nat_tests))
-ended_five a b c d e (suc (suc (suc (suc zero)))) l p h =
-    let t : a ≤ 1 = h 0 (omega arith) in let u : b ≤ 1 = h 1 (omega arith) in let v : c ≤ 1 = h 2 (omega arith) in let w : d ≤ 1 = h 3 (omega arith) in
-    rw (next_composition_four a b c d p.1.1.0 p.1.1.1.0) (grind (arith, nat_tests))
-ended_five a b c d e (suc (suc (suc (suc (suc len))))) l p h = absurd (omega arith)
-
 -- an array of five is five numbers
 pub record Five (xs : List ℕ) : Type 0 where
   pub a : ℕ
@@ -112,27 +86,9 @@ module _ (parts : List ℕ) (long : length parts ≡ 5) (len : ℕ) (few : len �
           → next_composition (take len parts) ≡ Some (take (len + 1) (set (set parts j 1) len (get_or parts j 0 - 1)))
       go f = rw (f.are, z) (opened_five f.a f.b f.c f.d f.e len few)
 
-  pub closed : (j : ℕ) → j ≡ 0 → AllByRecursion (λ p. 0 < p) (take len parts) → LastAbove (take len parts) (Some j) → 4 ≤ len → next_composition (take len parts) ≡ None
-  closed j z = go (five parts long)
-    where
-      go : Five parts → AllByRecursion (λ p. 0 < p) (take len parts) → LastAbove (take len parts) (Some j) → 4 ≤ len → next_composition (take len parts) ≡ None
-      go f = rw (f.are, z) (closed_five f.a f.b f.c f.d f.e len few)
-
-  pub ended : AllByRecursion (λ p. 0 < p) (take len parts) → LastAbove (take len parts) None → next_composition (take len parts) ≡ None
-  ended = go (five parts long)
-    where
-      go : Five parts → AllByRecursion (λ p. 0 < p) (take len parts) → LastAbove (take len parts) None → next_composition (take len parts) ≡ None
-      go f = rw f.are (ended_five f.a f.b f.c f.d f.e len few)
-
 -- the parts in front of the leader
 
 pub total_take : (k : ℕ) (ps : List ℕ) → total (take k ps) ≤ total ps
 total_take zero ps = omega arith
 total_take (suc k) [] = omega arith
 total_take (suc k) (p ∷ ps) = let h = total_take k ps in omega arith
-
-pub front_take : (parts : List ℕ) (len : ℕ) → len ≤ length parts → take (length (take len parts) - 1) (take len parts) ≡ take (len - 1) parts
-front_take parts len h = ap (λ k. take (k - 1) (take len parts)) (length-take-le len parts h) ∙ take-take (len - 1) len parts (omega arith)
-
-pub led_step : (parts : List ℕ) (len : ℕ) (o : Option (List ℕ)) → len ≤ length parts → next_composition (take (len - 1) parts) ≡ o → next_split true (take len parts) ≡ with_leader o
-led_step parts len o h e = ap (λ ps. with_leader (next_composition ps)) (front_take parts len h) ∙ ap with_leader e

@@ -249,9 +249,6 @@ pub read_none : (r : RoundScenario) (start : ℕ) → Reads (record { parts = 0 
 unfolding bit roles_in
 read_none r start = let e : start - start ≡ 0 = omega arith in rw e (record { filled = tt; even = refl; small = omega arith; few = omega arith; spells = refl })
 
-pub read_again : (x : Reading) (w : List ℕ) → Reads x w → Reads x (spelled x)
-read_again x w h = record { filled = h.filled; even = h.even; small = h.small; few = h.few; spells = refl }
-
 pub along_more : (r : RoundScenario) (start idx : ℕ) → start ≤ idx → roles_along r start (idx - start) ++ (role r idx ∷ []) ≡ roles_along r start (idx + 1 - start)
 along_more r start idx h =
     let e : idx + 1 - start ≡ idx - start + 1 = omega arith in

@@ -2,9 +2,9 @@
 use Rattle.std.proofs.Common.{◌≡◌, ℕ, zero, suc, ◌+◌, ◌-◌, ◌*◌, ◌/◌, ◌%◌, ◌^◌, ◌<◌, ◌≤◌, Bool, true, false, eqb, ltb, leb, ◌⊎◌, List, [], ◌∷◌, ◌++◌, map, length, get_or, take, drop, sym, refl, ap, ◌∙◌, subst, inl, inr, mul_assoc, mul-le-mul_left, mul-add, arith, pow_mono}
 use native.Mathlib.Nat.{div-eq_of_lt, pow-succ'}
 use Rattle.std.specs.List.{range_with_len, flat_map, AllByRecursion}
-use Rattle.std.proofs.lemmas.Bool.{false≢true, cases_lt, eqb-true, eqb-false, eq-eqb, ne_eqb, lt-ltb, le-ltb, le-leb}
+use Rattle.std.proofs.lemmas.Bool.{cases_lt, eqb-true, eqb-false, eq-eqb, ne_eqb, lt-ltb, le-ltb, le-leb}
 use Rattle.std.proofs.lemmas.Nat.{pow_pos, pow-add, mul-add-lt, div-mul-add, mod-mul-add}
-use Rattle.std.proofs.lemmas.List.{map-append, length-map, length-take, length_push, get_or-take, get_or_push, take_at, take-take, take_all, take_more, drop_all, drop_more, take-append-drop}
+use Rattle.std.proofs.lemmas.List.{map-append, length-map, length_push, get_or-take, get_or_push, take_at, take-take, take_all, take_more, drop_all, drop_more, take-append-drop}
 use Rattle.std.proofs.ByRecursion.{All-append, All-get_or}
 use Rattle.scenarios.specs.declared.round.RoundScenario.{RoundScenario}
 use Rattle.scenarios.specs.declared.refinement.LocalRefinement.{LocalRefinement}
@@ -17,7 +17,6 @@ use Rattle.scenarios.specs.Refinements.{sizes}
 use Rattle.scenarios.specs.Edges.{sizes_of}
 use Rattle.scenarios.specs.Readings.{letters_along, Placed, SpellsCell, CellRefused, tallied, FitsTally, Told, LedRanges, CellsRefused}
 use Rattle.scenarios.proofs.Parting.{total_append, inner_below, inner_above}
-use Rattle.scenarios.proofs.Celling.{some_part}
 use Rattle.scenarios.proofs.ReadingBack.{quotient}
 use Rattle.scenarios.proofs.Weighing.{four_mono, weight_under}
 
@@ -272,9 +271,6 @@ module _ (rs : List (ℕ × ℕ)) (l : ℕ) (r : RoundScenario) (led : LedRanges
       let b = ap total (take-append-drop j (sizes_of rs)) in
       told_fits r l j (total (take j (sizes_of rs))) (drop j (sizes_of rs)) t told (omega (arith, led.within))
 
-  pub left_all : LeftTold rs l r rs (record { rank = 0; marks = 0 })
-  left_all = record { few = omega arith; front = sym (take_all (length rs) rs (omega arith)); told = begun }
-
   pub left_last : (i count : ℕ) (left rest : List (ℕ × ℕ)) (x : ℕ × ℕ) (t : Tally) → count ≡ 0 → LeftTold rs l r left t → left ≡ rest ++ (x ∷ []) → i ≡ count + length rest → LastLeft rs l r i rest x t
   left_last i count left rest x t none told e at =
       let counts : length rest ≡ i = omega arith in
@@ -315,10 +311,3 @@ module _ (rs : List (ℕ × ℕ)) (l : ℕ) (r : RoundScenario) (led : LedRanges
         told = subst (λ k. Told r l k (total (take k (sizes_of rs))) (drop k (sizes_of rs)) u) (sym last.counts)
             (subst (Told r l i (total (take i (sizes_of rs))) (drop i (sizes_of rs))) (sym e) last_told);
       }
-
-  pub left_none : (left : List (ℕ × ℕ)) (t : Tally) → length left ≡ 0 → LeftTold rs l r left t → Told r l 0 0 (sizes_of rs) t
-  left_none left t e told = subst (λ k. Told r l k (total (take k (sizes_of rs))) (drop k (sizes_of rs)) t) e told.told
-
-pub led_some : (b : Bool) (c : ℕ) (x : LocalRefinement) → Split b c (sizes x) → b ≡ true → 0 < x.len
-led_some false c x s e = absurd (false≢true e)
-led_some true c x s e = let n = length-take x.len x.parts in omega (arith, some_part c (sizes x) s)
