@@ -4,7 +4,7 @@ use native.Mathlib.Nat.{div-eq_of_lt, pow-succ'}
 use Rattle.std.specs.List.{range_with_len, flat_map, AllByRecursion}
 use Rattle.std.proofs.lemmas.Bool.{cases_lt, eqb-true, eqb-false, eq-eqb, ne_eqb, lt-ltb, le-ltb, le-leb}
 use Rattle.std.proofs.lemmas.Nat.{pow_pos, pow-add, mul-add-lt, div-mul-add, mod-mul-add}
-use Rattle.std.proofs.lemmas.List.{map-append, length-map, length_push, get_or-take, get_or_push, take_at, take-take, take_all, take_more, drop_all, drop_more, take-append-drop}
+use Rattle.std.proofs.lemmas.List.{map-append, length-map, length_push, get_or-take, get_or_push, take_at, take-take, take_all, take_more, drop_more, take-append-drop}
 use Rattle.std.proofs.ByRecursion.{All-append, All-get_or}
 use Rattle.scenarios.specs.declared.round.RoundScenario.{RoundScenario}
 use Rattle.scenarios.specs.declared.refinement.LocalRefinement.{LocalRefinement}
@@ -75,9 +75,6 @@ fill_filled l i (c ∷ cs) (ps ∷ f) s =
     (All-append (λ p. 0 < p) ps (flat_map (λ qs. qs) f) s.0.filled h.0, omega (arith, total_append ps (flat_map (λ qs. qs) f), s.0.whole, h.1))
 
 -- the cells so far
-
-pub told_none : (r : RoundScenario) (l i start : ℕ) → Told r l i start [] (record { rank = 0; marks = 0 })
-told_none r l i start = record { fill = []; fills = tt; below = omega arith; letters = refl; marked = omega arith }
 
 pub told_fits : (r : RoundScenario) (l i start : ℕ) (cs : List ℕ) (t : Tally) → Told r l i start cs t → start + total cs ≤ 64 → FitsTally t
 told_fits r l i start cs t h k =
@@ -245,9 +242,6 @@ module _ (rs : List (ℕ × ℕ)) (l : ℕ) (r : RoundScenario) (led : LedRanges
       let a = more_at j h in
       let d = most_at j h in
       inl (k, omega arith, inner_at (sizes_of rs) j k (omega arith) (omega arith) (omega arith), never)
-
-  pub begun : Told r l (length rs) (total (take (length rs) (sizes_of rs))) (drop (length rs) (sizes_of rs)) (record { rank = 0; marks = 0 })
-  begun = subst (λ cs. Told r l (length rs) (total (take (length rs) (sizes_of rs))) cs (record { rank = 0; marks = 0 })) (sym (drop_all (length rs) (sizes_of rs) (omega (arith, count_cells)))) (told_none r l (length rs) (total (take (length rs) (sizes_of rs))))
 
   pub added_at : (j : ℕ) (t : Tally) (b : Bool) (x : LocalRefinement) (d : ℕ) → j < length rs → b ≡ eqb j l
       → SpellsCell b (get_or rs j (0, 0)).1 (letters_along r (get_or rs j (0, 0)).0 (get_or rs j (0, 0)).1) x d
