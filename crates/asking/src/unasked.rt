@@ -35,6 +35,6 @@ impl<T: Drop> From<AllocFailed<T>> for Unasked {
     ghost from_gives = { λ _ e. e ≡ Memory };
 
     fn from(_error: AllocFailed<T>) -> Unasked {
-        Unasked::Memory
+        Unasked::from(AllocError)
     }
 }
