@@ -18,7 +18,7 @@ fail() {
 }
 
 # the sources alone: what checks keep beside them is large
-printf 'refusals:\ntable:\nscenarios: refusals table\n' >"$copy/crates.txt" || exit 2
+printf 'refusals:\ntable:\nscenarios: refusals table arrayvec\n' >"$copy/crates.txt" || exit 2
 for crate in refusals table scenarios; do
     mkdir -p "$copy/crates/$crate" || exit 2
     for part in src specs proofs; do

@@ -44,7 +44,8 @@ fn sets_of(counted: &CountedPlan<'_>, rank: u64) -> Option<u64>
     count_sets(numbers.participants, numbers.faults, state).ok()
 }
 
-// Writes a ticket for each set of the scenario of a rank behind the first `len`, and answers where they end.
+// Writes a ticket for each set of the scenario of a rank behind the first `len`, and answers where they end. As above, the memory
+// is lent.
 fn note_rank(
     counted: &CountedPlan<'_>,
     rank: u64,

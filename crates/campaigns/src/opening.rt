@@ -28,7 +28,8 @@ pub struct OpenRefused<'a> {
     pub tickets: &'a mut [Ticket],
 }
 
-// Makes all of rank and ticket memory zero.
+// Makes all of rank and ticket memory zero. Where rank memory is too short all stays as it was, so each refusal says for itself
+// whether it clears.
 fn clear(ranks: &mut [RankSlot], tickets: &mut [Ticket])
     ensures { openings.Cleared ranks.old tickets.old ranks.new tickets.new }
 {

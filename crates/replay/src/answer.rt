@@ -113,7 +113,7 @@ pub(crate) fn unrank_agrees(
     Ok(
         are_next(words, &sizes)?
             && found.as_slice() == stored.as_slice()
-            && state.boundaries == left.boundaries
+            && state == left
             && back == rank,
     )
 }

@@ -71,7 +71,7 @@ impl Question for Kind {
         }
     }
 
-    // The kind itself says how it is asked, and nothing else is chosen by it.
+    // The kind itself says how it is asked: each reads its line in its own way.
     fn agrees(
         self,
         words: &mut SplitWhitespace<'_>,

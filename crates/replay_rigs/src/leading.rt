@@ -41,7 +41,7 @@ fn leader_at<I, E: Elector<Mode = I>>(elector: &E, view: u64, input: &I) -> Opti
         .then_some(leader)
 }
 
-// The same under a pile of scripts.
+// The same under a pile of scripts. A pile of each height is a type of its own, so each height has an arm.
 fn led_under<I, E: Elector<Mode = I> + Drop>(
     below: E,
     pile: &[Vec<usize>],

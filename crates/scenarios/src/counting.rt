@@ -54,7 +54,7 @@ fn note_place(slots: &mut [Slot], len: usize, place: Place) -> Option<usize>
     }
 }
 
-// The count that these slots hold for a place, or 0.
+// The count that these slots hold for a place; 0 for one that is not there, which is never asked for.
 pub(crate) fn value_of(slots: &[Slot], place: Place) -> u64
     ensures { slot.Valued place (length slots.now) slots.now result }
 {

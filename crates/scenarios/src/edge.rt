@@ -38,7 +38,7 @@ pub(crate) struct Edges {
 }
 
 // Moves on to the next splits of the cells: the last cell that has a next split takes it, and those behind it begin again.
-// False where no cell has one.
+// False where no cell has one; there is no value to answer beside it.
 fn next_splits(cells: &mut [SplitCell], leader: usize) -> bool
     requires filled { Fills leader 0 (sizes_in cells.old) (fill_in cells.old) }
     requires small { AllByRecursion (λ c. (0 < c) × (c ≤ 64)) (sizes_in cells.old) }

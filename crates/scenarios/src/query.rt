@@ -1,4 +1,4 @@
-// What a counted plan answers: the scenario of a rank, the rank of a scenario, and whether rounds are canonical.
+// What plans answer: the scenario of a rank, the rank of a scenario, and whether rounds are canonical.
 ghost use Rattle.std.specs.Prelude.{◌≡◌, ◌<◌, ◌≤◌, length, Ok, Err};
 ghost use Rattle.scenarios.specs.Plans.{CorrespondsIn};
 ghost use Rattle.scenarios.specs.PlanCounts.{Counted, ScenarioTold, UnrankedTold, ShapeTold, CanonicalAnswered, RankAnswered};

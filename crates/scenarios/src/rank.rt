@@ -7,24 +7,28 @@ ghost use Rattle.scenarios.specs.Counting.{layer};
 ghost use Rattle.scenarios.specs.Ranking.{Tells, FirstRank, RankTold};
 
 use crate::cell::CellState;
+use crate::counting::Place;
 use crate::edge::Edges;
 use crate::read::{RoundRank, read_round};
 use crate::round::RoundScenario;
 use crate::suffixes::SuffixCounts;
 
 impl SuffixCounts<'_> {
-    // The rank, among the scenarios from a state at a depth, of the first one that begins with the round that was read.
-    fn rank_before(&self, depth: usize, state: CellState, read: RoundRank) -> u64
-        requires within { depth < self.now.rounds }
-        requires reached { Among (layer self.now.participants.number depth) state.boundaries }
-        requires told { (t : Turn) × Tells self.now.participants.number state.boundaries read t }
-        ensures { (t : Turn) → Tells self.now.participants.number state.boundaries read t → FirstRank (self.now.rounds - (depth + 1)) (cells self.now.participants.number state.boundaries) t read.rank result }
+    // The rank, among the scenarios from a place, of the first one that begins with the round that was read.
+    fn rank_before(&self, place: Place, read: RoundRank) -> u64
+        requires within { place.depth < self.now.rounds }
+        requires reached { Among (layer self.now.participants.number place.depth) place.state.boundaries }
+        requires told { (t : Turn) × Tells self.now.participants.number place.state.boundaries read t }
+        ensures { (t : Turn) → Tells self.now.participants.number place.state.boundaries read t → FirstRank (self.now.rounds - (place.depth + 1)) (cells self.now.participants.number place.state.boundaries) t read.rank result }
     {
-        let mut edges = Edges::of(self.participants, state);
+        let mut edges = Edges::of(self.participants, place.state);
         let mut before: u64 = 0;
         loop {
             let edge = edges.edge();
-            let ways = self.continuations(depth + 1, edge.next);
+            let ways = self.continuations(Place {
+                depth: place.depth + 1,
+                state: edge.next,
+            });
             if edge.leader == read.leader_cell && edge.next.boundaries == read.next.boundaries {
                 return before + read.rank as u64 * ways;
             }
@@ -43,9 +47,9 @@ impl SuffixCounts<'_> {
     {
         let mut state = CellState::initial();
         let mut rank: u64 = 0;
-        for (i, round) in script.iter().enumerate() {
+        for (depth, round) in script.iter().enumerate() {
             let read = read_round(self.participants, state, *round)?;
-            rank += self.rank_before(i, state, read);
+            rank += self.rank_before(Place { depth, state }, read);
             state = read.next;
         }
         Some(rank)

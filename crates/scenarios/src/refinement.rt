@@ -11,7 +11,7 @@ pub(crate) struct LocalRefinement {
     ghost few: { len ≤ 5 },
 }
 
-// No parts.
+// No parts. Written out, since a struct with a ghost field derives no `Default`; an `ArrayVec` of such asks for one.
 impl Default for LocalRefinement {
     fn default() -> LocalRefinement {
         LocalRefinement {

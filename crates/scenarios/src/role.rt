@@ -25,7 +25,7 @@ impl Role {
         self as u8
     }
 
-    // The role of a leader in this placement: primary, secondary, both.
+    // The role of a leader in this placement: primary, secondary, both. Placements are digits of a round's number.
     pub(crate) fn placed(placement: u64) -> Role
         requires { placement < 3 }
         ensures { number result ≡ 3 - placement }
@@ -70,7 +70,7 @@ fn kth_mask(len: usize, rank: u64) -> Option<u8>
 {
     let mut mask: u8 = 0;
     let mut left = rank;
-    // A search over the sixteen masks that stops at the one wanted.
+    // The search passes over masks with another number of ones and stops at the wanted one, so it is written as that.
     loop {
         if mask == 16 {
             break None;
@@ -85,7 +85,7 @@ fn kth_mask(len: usize, rank: u64) -> Option<u8>
     }
 }
 
-// The roles of a choice, in role order from the first place on.
+// The roles of a choice, in role order from the first place on. Four roles are passed by value.
 fn roles_of(mask: u8) -> [Role; 4]
     ensures { letters (take (length (roles_in mask)) result) ≡ roles_in mask }
 {
@@ -107,6 +107,7 @@ pub(crate) fn roles_from_rank(len: usize, rank: u64) -> [Role; 4]
 {
     match kth_mask(len, rank) {
         Some(mask) => roles_of(mask),
-        None => [Role::Outside; 4],
+        // there are as many choices as ranks
+        None => unreachable!(),
     }
 }

@@ -5,7 +5,6 @@ ghost use Rattle.scenarios.specs.Fits.{Among};
 ghost use Rattle.scenarios.specs.Scenarios.{count};
 ghost use Rattle.scenarios.specs.Counting.{layer, entries};
 
-use crate::cell::CellState;
 use crate::counting::{Place, Slot, value_of};
 use crate::participants::Participants;
 
@@ -20,15 +19,15 @@ pub(crate) struct SuffixCounts<'a> {
 }
 
 impl SuffixCounts<'_> {
-    // How many scenarios continue from a state at a depth. At the last depth there is one, with no search.
-    pub(crate) fn continuations(&self, depth: usize, state: CellState) -> u64
-        requires within { depth ≤ self.now.rounds }
-        requires reached { Among (layer self.now.participants.number depth) state.boundaries }
-        ensures { result ≡ count (self.now.rounds - depth) (cells self.now.participants.number state.boundaries) }
+    // How many scenarios continue from a place. At the last depth there is one, with no search.
+    pub(crate) fn continuations(&self, place: Place) -> u64
+        requires within { place.depth ≤ self.now.rounds }
+        requires reached { Among (layer self.now.participants.number place.depth) place.state.boundaries }
+        ensures { result ≡ count (self.now.rounds - place.depth) (cells self.now.participants.number place.state.boundaries) }
     {
-        if depth == self.rounds {
+        if place.depth == self.rounds {
             return 1;
         }
-        value_of(self.slots, Place { depth, state })
+        value_of(self.slots, place)
     }
 }

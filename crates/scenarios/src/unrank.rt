@@ -7,6 +7,7 @@ ghost use Rattle.scenarios.specs.Scenarios.{count};
 ghost use Rattle.scenarios.specs.Unranking.{Stepped, RoundsTold};
 
 use crate::cell::CellState;
+use crate::counting::Place;
 use crate::draw::round_at;
 use crate::edge::Edges;
 use crate::round::RoundScenario;
@@ -21,19 +22,22 @@ pub(crate) struct Step {
 }
 
 impl SuffixCounts<'_> {
-    // The first round of the continuation of a rank from a state at a depth. Each edge owns an interval of ranks: its
-    // multiplicity times the continuations behind it.
-    fn first_round(&self, depth: usize, state: CellState, rank: u64) -> Step
-        requires within { depth < self.now.rounds }
-        requires reached { Among (layer self.now.participants.number depth) state.boundaries }
-        requires below { rank < count (self.now.rounds - depth) (cellular.cells self.now.participants.number state.boundaries) }
-        ensures { Stepped self.now.participants.number self.now.rounds depth state.boundaries rank result }
+    // The first round of the continuation of a rank from a place. Each edge owns an interval of ranks: its multiplicity times
+    // the continuations behind it.
+    fn first_round(&self, place: Place, rank: u64) -> Step
+        requires within { place.depth < self.now.rounds }
+        requires reached { Among (layer self.now.participants.number place.depth) place.state.boundaries }
+        requires below { rank < count (self.now.rounds - place.depth) (cellular.cells self.now.participants.number place.state.boundaries) }
+        ensures { Stepped self.now.participants.number self.now.rounds place.depth place.state.boundaries rank result }
     {
-        let mut edges = Edges::of(self.participants, state);
+        let mut edges = Edges::of(self.participants, place.state);
         let mut left = rank;
         loop {
             let edge = edges.edge();
-            let suffix = self.continuations(depth + 1, edge.next);
+            let suffix = self.continuations(Place {
+                depth: place.depth + 1,
+                state: edge.next,
+            });
             let size = edge.multiplicity as u64 * suffix;
             if left < size {
                 return Step {
@@ -59,7 +63,7 @@ impl SuffixCounts<'_> {
         let mut state = CellState::initial();
         let mut left = rank;
         for (depth, round) in out[..self.rounds].iter_mut().enumerate() {
-            let step = self.first_round(depth, state, left);
+            let step = self.first_round(Place { depth, state }, left);
             *round = step.round;
             state = step.next;
             left = step.left;

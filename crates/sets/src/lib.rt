@@ -123,6 +123,7 @@ fn find_taken(rest: &[u64; 64], len: usize, faults: usize, number: u64) -> (usiz
         }
         left -= *owned;
     }
+    // a number below all ways falls to one of the amounts
     unreachable!()
 }
 

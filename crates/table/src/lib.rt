@@ -1,5 +1,5 @@
 // A table of keys and values in slots handed in, entries in the order of arrival.
-// The first `len` slots are in use; nothing else is looked at.
+// `find` looks through the entries given; `add` is told how many slots are in use, and looks at no others.
 
 #![tactic(auto)]
 

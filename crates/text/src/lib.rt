@@ -54,7 +54,7 @@ fn read_numeral(bytes: &[u8]) -> Option<u32>
     Some(n)
 }
 
-// The mode that a byte stands for, told by its letter.
+// The mode that a byte stands for: a letter, so it is matched as a character.
 fn mode_letter(b: u8) -> Option<Mode>
     ensures { result ≡ lines.mode_of b }
 {

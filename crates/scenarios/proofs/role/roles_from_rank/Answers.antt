@@ -3,10 +3,10 @@ use Rattle.scenarios.specs.Roles.{letters}
 use Rattle.scenarios.proofs.Subsets.{choice_is, choice_there}
 use Rattle.scenarios.proofs.role.roles_from_rank.Goals as goal
 
-pub returns-in-Some : goal.returns-in-Some
-returns-in-Some c =
+pub returns : goal.returns
+returns c =
     let r = choice_is c.args.len c.args.rank c.in-Some.mask (sym c.in-Some.ensures) in
     ap (λ k. letters (take k c.roles_of.result)) (sym r.0) ∙ c.roles_of.ensures ∙ r.1
 
-pub returns-in-None : goal.returns-in-None
-returns-in-None c = absurd (choice_there c.args.len c.args.rank c.requires (sym c.in-None.ensures))
+pub unreachable-requires : goal.unreachable-requires
+unreachable-requires c = choice_there c.args.len c.args.rank c.requires (sym c.in-None.ensures)

@@ -25,11 +25,11 @@ pub loop-left-init : goal.loop-left-init
 loop-left-init c =
     let k = c.args.self.now in
     let n = k.participants.number in
-    let s = c.args.state.boundaries in
+    let s = c.args.place.state.boundaries in
     let b = c.of-edges.ensures in
-    let r = k.rounds - (c.args.depth + 1) in
+    let r = k.rounds - (c.args.place.depth + 1) in
     let l = c.requires.within in
-    let one : k.rounds - c.args.depth ≡ suc r = omega arith in
+    let one : k.rounds - c.args.place.depth ≡ suc r = omega arith in
     let start = seek_start r (cells n s) c.args.rank (subst (λ j. c.args.rank < count j (cells n s)) one c.requires.below) in
     let same = left_begun n (cells n s) c.of-edges.result b in
     (b.walking, b.at, subst (λ ts. Seeking r (cells n s) c.args.rank ts c.args.rank) (sym same) start)
@@ -38,13 +38,13 @@ pub continuations-suffix-requires-clause-reached : goal.continuations-suffix-req
 continuations-suffix-requires-clause-reached c =
     let k = c.args.self.now in
     let i = c.loop-left.invariant in
-    edge_layered k.participants.number k.rounds c.args.depth c.args.state.boundaries c.args.rank c.loop-left.left 0 k.participants.within.0 c.requires.within c.requires.reached
+    edge_layered k.participants.number k.rounds c.args.place.depth c.args.place.state.boundaries c.args.rank c.loop-left.left 0 k.participants.within.0 c.requires.within c.requires.reached
     c.loop-left.edges i.0 i.1 i.2 c.edge-edge.result c.edge-edge.ensures
 
 pub overflow_cast-size : goal.overflow_cast-size
 overflow_cast-size c =
     let at =
-    standing c.args.self.now c.args.depth c.args.state.boundaries c.args.rank c.loop-left.left c.continuations-suffix.result c.loop-left.edges c.edge-edge.result
+    standing c.args.self.now c.args.place.depth c.args.place.state.boundaries c.args.rank c.loop-left.left c.continuations-suffix.result c.loop-left.edges c.edge-edge.result
     c.requires.within c.requires.reached c.loop-left.invariant c.edge-edge.ensures c.continuations-suffix.ensures in
     let h = at.mult_small in
     omega arith
@@ -52,7 +52,7 @@ overflow_cast-size c =
 pub overflow_mul-size : goal.overflow_mul-size
 overflow_mul-size c =
     let at =
-    standing c.args.self.now c.args.depth c.args.state.boundaries c.args.rank c.loop-left.left c.continuations-suffix.result c.loop-left.edges c.edge-edge.result
+    standing c.args.self.now c.args.place.depth c.args.place.state.boundaries c.args.rank c.loop-left.left c.continuations-suffix.result c.loop-left.edges c.edge-edge.result
     c.requires.within c.requires.reached c.loop-left.invariant c.edge-edge.ensures c.continuations-suffix.ensures in
     let h = at.size_small in
     omega arith
@@ -61,13 +61,13 @@ pub returns-then-left-size : goal.returns-then-left-size
 returns-then-left-size c =
     let k = c.args.self.now in
     let n = k.participants.number in
-    let d = c.args.depth in
-    let s = c.args.state.boundaries in
+    let d = c.args.place.depth in
+    let s = c.args.place.state.boundaries in
     let e = c.loop-left.edges in
     let i = c.loop-left.invariant in
     let h = k.participants.within.0 in
     let at =
-    standing c.args.self.now c.args.depth c.args.state.boundaries c.args.rank c.loop-left.left c.continuations-suffix.result c.loop-left.edges c.edge-edge.result
+    standing c.args.self.now c.args.place.depth c.args.place.state.boundaries c.args.rank c.loop-left.left c.continuations-suffix.result c.loop-left.edges c.edge-edge.result
     c.requires.within c.requires.reached c.loop-left.invariant c.edge-edge.ensures c.continuations-suffix.ensures in
     step_from n k.rounds d s h c.requires.within c.requires.reached (turn_at e)
     (edge_among n k.rounds d s c.args.rank c.loop-left.left 0 h c.requires.within c.requires.reached e i.0 i.1 i.2)
@@ -76,7 +76,7 @@ returns-then-left-size c =
 pub unreachable-requires : goal.unreachable-requires
 unreachable-requires c =
     let at =
-    standing c.args.self.now c.args.depth c.args.state.boundaries c.args.rank c.loop-left.left c.continuations-suffix.result c.loop-left.edges c.edge-edge.result
+    standing c.args.self.now c.args.place.depth c.args.place.state.boundaries c.args.rank c.loop-left.left c.continuations-suffix.result c.loop-left.edges c.edge-edge.result
     c.requires.within c.requires.reached c.loop-left.invariant c.edge-edge.ensures c.continuations-suffix.ensures in
     at.ended c.if-not-advance.ensures c.if-left-size.false
 
@@ -89,6 +89,6 @@ pub loop-left-preserved : goal.loop-left-preserved
 loop-left-preserved c =
     let m = c.if-not-advance.ensures in
     let at =
-    standing c.args.self.now c.args.depth c.args.state.boundaries c.args.rank c.loop-left.left c.continuations-suffix.result c.loop-left.edges c.edge-edge.result
+    standing c.args.self.now c.args.place.depth c.args.place.state.boundaries c.args.rank c.loop-left.left c.continuations-suffix.result c.loop-left.edges c.edge-edge.result
     c.requires.within c.requires.reached c.loop-left.invariant c.edge-edge.ensures c.continuations-suffix.ensures in
     (m.walking, m.at ∙ c.loop-left.invariant.1, at.passed c.advance.new.self m c.if-left-size.false)

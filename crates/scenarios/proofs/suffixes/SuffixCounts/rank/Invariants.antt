@@ -1,5 +1,5 @@
 use Rattle.scenarios.proofs.Ranking.{Ranking}
 use Rattle.scenarios.proofs.suffixes.SuffixCounts.rank.Given as goal
 
-abbrev pub invariant-loop-i : goal.invariant-loop-i
-invariant-loop-i l = Ranking l.self.participants.number l.script l.i l.state.boundaries l.rank
+abbrev pub invariant-loop-depth : goal.invariant-loop-depth
+invariant-loop-depth l = Ranking l.self.participants.number l.script l.depth l.state.boundaries l.rank
