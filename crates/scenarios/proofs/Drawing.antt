@@ -16,7 +16,7 @@ use Rattle.scenarios.specs.Turns.{choose, subset, ways, tones, spell, weight_fro
 use Rattle.scenarios.specs.Fits.{Split, Fills}
 use Rattle.scenarios.specs.Roles.{number, letters}
 use Rattle.scenarios.specs.Refinements.{sizes}
-use Rattle.scenarios.specs.Edges.{cells_at, turn_at, Walking}
+use Rattle.scenarios.specs.Edges.{cells_at, turn_at}
 use Rattle.scenarios.proofs.Growing.{grown_none, grown_more, grown_below}
 use Rattle.scenarios.proofs.Lettering.{Proper, proper_left, proper_right, leader_round}
 use Rattle.scenarios.proofs.Choosing.{length_subset}
@@ -206,7 +206,7 @@ some_refined led c r s t =
 abbrev pub ways_at : Edges → ℕ → SplitCell → ℕ
 ways_at e i x = ways (eqb i e.leader) (sizes x.split)
 
-module _ (e : Edges) (w : Walking e) where
+module _ (e : Edges) where
   pub length_cells : length (cells_at e) ≡ length e.cells.items
   length_cells = cells_long e.cells.items
 
@@ -214,14 +214,14 @@ module _ (e : Edges) (w : Walking e) where
   length_fill = fill_long e.cells.items
 
   pub leader_within : e.leader < length e.cells.items
-  leader_within = omega (arith, w.fits.leads, length_cells)
+  leader_within = omega (arith, e.stands.fits.leads, length_cells)
 
   module _ (i : ℕ) (x : SplitCell) (here : x ≡ get_or e.cells.items i x) (h : i < length e.cells.items) where
     pub range_at : ◌≡◌ {A = ℕ × ℕ} (x.start, x.size) (total (take i (cells_at e)), get_or (cells_at e) i 0)
     range_at =
         ap {B = ℕ × ℕ} (λ c. (c.start, c.size)) here
         ∙ sym (range_of e.cells.items i x h (0, 0))
-        ∙ ap (λ rs. get_or rs i (0, 0)) w.ranged
+        ∙ ap (λ rs. get_or rs i (0, 0)) e.stands.ranged
         ∙ ranges_at 0 (cells_at e) i (omega (arith, length_cells))
         ∙ ap (λ s. (s, get_or (cells_at e) i 0)) (let z : 0 + total (take i (cells_at e)) ≡ total (take i (cells_at e)) = omega arith in z)
 
@@ -233,16 +233,16 @@ module _ (e : Edges) (w : Walking e) where
 
     pub range_within : (1 ≤ x.start + x.size) × (x.start + x.size ≤ 64)
     range_within =
-        let some = All-get_or (λ x. 0 < x) (cells_at e) i 0 (omega (arith, length_cells)) w.whole.filled in
+        let some = All-get_or (λ x. 0 < x) (cells_at e) i 0 (omega (arith, length_cells)) e.stands.whole.filled in
         let most = part_within (cells_at e) i (length e.cells.items) h (omega (arith, length_cells)) in
         let all = total_take (length e.cells.items) (cells_at e) in
-        rw (starts_at, sized_at) (omega arith, omega (arith, w.whole.whole, e.participants.within.1))
+        rw (starts_at, sized_at) (omega arith, omega (arith, e.stands.whole.whole, e.participants.within.1))
 
     pub fill_at : get_or (turn_at e).fill i [] ≡ sizes x.split
     fill_at = parts_of e.cells.items i x h ∙ ap (λ c. sizes c.split) (sym here)
 
     pub split_at : Split (eqb i e.leader) (get_or (cells_at e) i 0) (sizes x.split)
-    split_at = subst (Split (eqb i e.leader) (get_or (cells_at e) i 0)) fill_at (subst (λ j. Split (eqb j e.leader) (get_or (cells_at e) i 0) (get_or (turn_at e).fill i [])) (let z : 0 + i ≡ i = omega arith in z) (fills_at e.leader 0 i (cells_at e) (turn_at e).fill w.fits.split (omega (arith, length_cells))))
+    split_at = subst (Split (eqb i e.leader) (get_or (cells_at e) i 0)) fill_at (subst (λ j. Split (eqb j e.leader) (get_or (cells_at e) i 0) (get_or (turn_at e).fill i [])) (let z : 0 + i ≡ i = omega arith in z) (fills_at e.leader 0 i (cells_at e) (turn_at e).fill e.stands.fits.split (omega (arith, length_cells))))
 
     pub split_here : Split (eqb i e.leader) x.size (sizes x.split)
     split_here = subst (λ c. Split (eqb i e.leader) c (sizes x.split)) (sym sized_at) split_at
@@ -309,7 +309,7 @@ module _ (e : Edges) (w : Walking e) where
         sym (grown_none drawn (total (take i (cells_at e))))
         ∙ ap (λ f. grown drawn (total (take i (cells_at e))) (letters_from e.leader i f left)) (sym (drop_all i (turn_at e).fill (omega (arith, length_fill))))
         ∙ k.comes
-        ∙ grown_whole (leads_at e) _ (fill_leader e.leader 0 (cells_at e) (turn_at e).fill rank e.leader w.fits.split w.whole.filled (omega arith) w.fits.leads h)
+        ∙ grown_whole (leads_at e) _ (fill_leader e.leader 0 (cells_at e) (turn_at e).fill rank e.leader e.stands.fits.split e.stands.whole.filled (omega arith) e.stands.fits.leads h)
 
 -- and these are few
 pub ways_small : (e : Edges) (i : ℕ) (x : SplitCell) → ways_at e i x ≤ 18

@@ -7,7 +7,7 @@ use Rattle.scenarios.specs.Cells.{CellsOf}
 use Rattle.scenarios.specs.Turns.{Turn, turns}
 use Rattle.scenarios.specs.Fits.{Among}
 use Rattle.scenarios.specs.Steps.{first_of, first_turn, next_turn}
-use Rattle.scenarios.specs.Edges.{cells_at, turn_at, Walking, Begun, Moved, onward, left_of}
+use Rattle.scenarios.specs.Edges.{cells_at, turn_at, Begun, Moved, onward, left_of}
 use Rattle.scenarios.proofs.Walks.{turns_fit, turns_begin, turns_walk}
 use Rattle.scenarios.proofs.Filling.{cells_long}
 
@@ -22,36 +22,33 @@ onward_is n cs b t (u ∷ r) (suc k) c e h =
     ap (λ o. t ∷ onwards k cs o) (turns_walk n cs c b t (u ∷ r) e)
     ∙ ap (λ l. t ∷ l) (onward_is n cs (b ++ (t ∷ [])) u r k c (e ∙ sym (append_assoc b (t ∷ []) (u ∷ r))) (omega arith))
 
-module _ (e : Edges) (w : Walking e) where
+module _ (e : Edges) where
   -- the walk stands at one of the turns, and the rest is left
   pub left_split : (b r : List Turn) → turns (cells_at e) ≡ b ++ (turn_at e ∷ r) → left_of e ≡ turn_at e ∷ r
   unfolding left_of
   left_split b r s =
       let l = ap length s ∙ length-append b (turn_at e ∷ r) in
-      onward_is e.participants.number (cells_at e) b (turn_at e) r (length (turns (cells_at e))) w.whole s (omega arith)
+      onward_is e.participants.number (cells_at e) b (turn_at e) r (length (turns (cells_at e))) e.stands.whole s (omega arith)
 
   pub left_among : Among (turns (cells_at e)) (turn_at e)
-  left_among = (turns_fit e.participants.number (cells_at e) w.whole (turn_at e)).1 w.fits
+  left_among = (turns_fit e.participants.number (cells_at e) e.stands.whole (turn_at e)).1 e.stands.fits
 
 -- the turn at which the walk stands is the first that is left
-pub left_here : (e : Edges) → Walking e → (rest : List Turn) × (left_of e ≡ turn_at e ∷ rest)
-left_here e w = go (left_among e w)
+pub left_here : (e : Edges) → (rest : List Turn) × (left_of e ≡ turn_at e ∷ rest)
+left_here e = go (left_among e)
   where
     go : Among (turns (cells_at e)) (turn_at e) → (rest : List Turn) × (left_of e ≡ turn_at e ∷ rest)
-    go (b, r, s) = (r, left_split e w b r s)
+    go (b, r, s) = (r, left_split e b r s)
 
 -- at the start all turns are left
 pub left_begun : (n : ℕ) (cs : List ℕ) (e : Edges) → Begun n cs e → left_of e ≡ turns cs
 left_begun n cs e b = go (turns cs) refl
   where
-    w : Walking e
-    w = b.walking
-
     some : 0 < length (cells_at e)
-    some = omega (arith, cells_long e.cells.items, w.some)
+    some = omega (arith, cells_long e.cells.items, e.stands.some)
 
     starts : first_of (turns (cells_at e)) ≡ Some (first_turn (cells_at e))
-    starts = turns_begin e.participants.number (cells_at e) w.whole some
+    starts = turns_begin e.participants.number (cells_at e) e.stands.whole some
 
     at : turn_at e ≡ first_turn (cells_at e)
     at = b.first ∙ ap first_turn (sym b.at)
@@ -63,14 +60,14 @@ left_begun n cs e b = go (turns cs) refl
         let f : Some t ≡ Some (first_turn (cells_at e)) = sym (ap first_of s) ∙ starts in
         let same : t ≡ turn_at e = let g : t ≡ first_turn (cells_at e) = cc in g ∙ sym at in
         let s' : turns (cells_at e) ≡ [] ++ (turn_at e ∷ ts) = s ∙ ap (λ x. x ∷ ts) same in
-        left_split e w [] ts s' ∙ sym (ap (λ x. turns x) (sym b.at) ∙ s')
+        left_split e [] ts s' ∙ sym (ap (λ x. turns x) (sym b.at) ∙ s')
 
 -- a step leaves one less
-pub left_moved : (e f : Edges) → Walking e → Moved e f → left_of e ≡ turn_at e ∷ left_of f
-left_moved e f w m = go (left_among e w)
+pub left_moved : (e f : Edges) → Moved e f → left_of e ≡ turn_at e ∷ left_of f
+left_moved e f m = go (left_among e)
   where
     go : Among (turns (cells_at e)) (turn_at e) → left_of e ≡ turn_at e ∷ left_of f
-    go (b, r, s) = next r s (turns_walk e.participants.number (cells_at e) w.whole b (turn_at e) r s)
+    go (b, r, s) = next r s (turns_walk e.participants.number (cells_at e) e.stands.whole b (turn_at e) r s)
       where
         next : (r' : List Turn) → turns (cells_at e) ≡ b ++ (turn_at e ∷ r') → next_turn (cells_at e) (turn_at e) ≡ first_of r' → left_of e ≡ turn_at e ∷ left_of f
         next [] s' q = absurd (let z = sym m.next ∙ q in let y : ◌≡◌ {A = ℕ} 0 1 = cc in omega arith)
@@ -78,17 +75,17 @@ left_moved e f w m = go (left_among e w)
             let z = sym m.next ∙ q in
             let same : turn_at f ≡ u = cc in
             let s'' : turns (cells_at f) ≡ (b ++ (turn_at e ∷ [])) ++ (turn_at f ∷ r') = ap turns m.at ∙ s' ∙ sym (append_assoc b (turn_at e ∷ []) (u ∷ r')) ∙ ap (λ x. (b ++ (turn_at e ∷ [])) ++ (x ∷ r')) (sym same) in
-            left_split e w b (u ∷ r') s' ∙ ap (λ l. turn_at e ∷ l) (ap (λ x. x ∷ r') (sym same) ∙ sym (left_split f m.walking (b ++ (turn_at e ∷ [])) r' s''))
+            left_split e b (u ∷ r') s' ∙ ap (λ l. turn_at e ∷ l) (ap (λ x. x ∷ r') (sym same) ∙ sym (left_split f (b ++ (turn_at e ∷ [])) r' s''))
 
 -- at the last turn no other is left
-pub left_ended : (e : Edges) → Walking e → next_turn (cells_at e) (turn_at e) ≡ None → left_of e ≡ turn_at e ∷ []
-left_ended e w n = go (left_among e w)
+pub left_ended : (e : Edges) → next_turn (cells_at e) (turn_at e) ≡ None → left_of e ≡ turn_at e ∷ []
+left_ended e n = go (left_among e)
   where
     go : Among (turns (cells_at e)) (turn_at e) → left_of e ≡ turn_at e ∷ []
-    go (b, r, s) = next r s (turns_walk e.participants.number (cells_at e) w.whole b (turn_at e) r s)
+    go (b, r, s) = next r s (turns_walk e.participants.number (cells_at e) e.stands.whole b (turn_at e) r s)
       where
         next : (r' : List Turn) → turns (cells_at e) ≡ b ++ (turn_at e ∷ r') → next_turn (cells_at e) (turn_at e) ≡ first_of r' → left_of e ≡ turn_at e ∷ []
-        next [] s' q = left_split e w b [] s'
+        next [] s' q = left_split e b [] s'
         next (u ∷ r') s' q = absurd (let z = sym n ∙ q in let y : ◌≡◌ {A = ℕ} 0 1 = cc in omega arith)
 
 -- the turn at a place

@@ -9,7 +9,7 @@ use Rattle.scenarios.specs.Cells.{CellsOf, cells, boundaries}
 use Rattle.scenarios.specs.Turns.{Turn, turns, weight, after}
 use Rattle.scenarios.specs.Fits.{Among, Fits}
 use Rattle.scenarios.specs.Steps.{next_turn}
-use Rattle.scenarios.specs.Edges.{cells_at, turn_at, edge_of, Walking, Begun, Moved, left_of}
+use Rattle.scenarios.specs.Edges.{cells_at, turn_at, edge_of, Begun, Moved, left_of}
 use Rattle.scenarios.specs.Scenarios.{sum_of, count}
 use Rattle.scenarios.specs.Counting.{layer}
 use Rattle.scenarios.specs.Ranking.{Tells, FirstRank}
@@ -26,7 +26,6 @@ use Rattle.scenarios.proofs.Telling.{same_turn}
 
 -- the walk stands at e, v sums the turns passed, and the turn that was read is still ahead
 pub record Passing (r n s : ℕ) (x : RoundRank) (e : Edges) (v : ℕ) : Type 0 where
-  pub walking : Walking e
   pub at : cells_at e ≡ cells n s
   pub passed : List Turn
   pub splits : turns (cells n s) ≡ passed ++ left_of e
@@ -37,7 +36,6 @@ pub pass_start : (r n s : ℕ) (x : RoundRank) (e : Edges) → 0 < n → Begun n
 pass_start r n s x e h b =
     let l = left_begun n (cells n s) e b in
     record {
-      walking = b.walking;
       at = b.at;
       passed = [];
       splits = sym l;
@@ -62,7 +60,7 @@ module _ (R d : ℕ) {n s : ℕ} {x : RoundRank} {e : Edges} {v : ℕ} {y : Tran
   stands = cells_stand n s some
 
   fits_here : Fits (cells n s) here
-  fits_here = subst (λ cs. Fits cs here) so.at so.walking.fits
+  fits_here = subst (λ cs. Fits cs here) so.at e.stands.fits
 
   among_turns : Among (turns (cells n s)) here
   among_turns = (turns_fit n (cells n s) stands here).1 fits_here
@@ -81,7 +79,7 @@ module _ (R d : ℕ) {n s : ℕ} {x : RoundRank} {e : Edges} {v : ℕ} {y : Tran
 
     total_fits : v + y.multiplicity * w < 2 ^ 64
     total_fits =
-        let p = left_here e so.walking in
+        let p = left_here e in
         let q : count (R - d) (cells n s) ≡ sum_of (size (R - (d + 1))) so.passed + (size (R - (d + 1)) here + sum_of (size (R - (d + 1))) p.0) =
         count_step R d (cells n s) l ∙ ap (sum_of (size (R - (d + 1)))) (so.splits ∙ ap (λ ts. so.passed ++ ts) p.1) ∙ sum_of_append (size (R - (d + 1))) so.passed (here ∷ p.0) in
         let b = count_below n R d s some (omega arith) a in
@@ -118,7 +116,7 @@ module _ {r n s : ℕ} {x : RoundRank} {e : Edges} {v : ℕ} {y : TransitionEdge
 
     pub pass_found : (t : Turn) → Tells n s x t → FirstRank r (cells n s) t x.rank (v + x.rank * w)
     pass_found t f =
-        let p = left_here e h.passing.walking in
+        let p = left_here e in
         let g : FirstRank r (cells n s) (turn_at e) x.rank (v + x.rank * w) = record {
           before = h.passing.passed;
           rest = p.0;
@@ -139,12 +137,11 @@ module _ {r n s : ℕ} {x : RoundRank} {e : Edges} {v : ℕ} {y : TransitionEdge
     pub pass_on : (f : Edges) → Moved e f → Passing r n s x f (v + y.multiplicity * w)
     pass_on f m =
         let so = h.passing in
-        let l = left_moved e f so.walking m in
+        let l = left_moved e f m in
         let z = so.sum in
         let k = sum_of_append (size r) so.passed (turn_at e ∷ []) in
         let j : y.multiplicity * w ≡ size r (turn_at e) = ap (λ u. u.multiplicity * w) h.is ∙ ap (λ u. weight (turn_at e) * u) h.ways in
         record {
-          walking = m.walking;
           at = m.at ∙ so.at;
           passed = so.passed ++ (turn_at e ∷ []);
           splits = so.splits ∙ ap (λ ts. so.passed ++ ts) l ∙ sym (append_assoc so.passed (turn_at e ∷ []) (left_of f));
@@ -153,4 +150,4 @@ module _ {r n s : ℕ} {x : RoundRank} {e : Edges} {v : ℕ} {y : TransitionEdge
         }
 
     pub pass_never : (t : Turn) → Tells n s x t → next_turn (cells_at e) (turn_at e) ≡ None → ⊥
-    pass_never t f q = among_none t (later t [] f (left_ended e h.passing.walking q))
+    pass_never t f q = among_none t (later t [] f (left_ended e q))

@@ -20,7 +20,7 @@ use Rattle.scenarios.proofs.Finding.{layer_after}
 use Rattle.scenarios.specs.declared.edge.Edges.{Edges}
 use Rattle.scenarios.specs.declared.edge.TransitionEdge.{TransitionEdge}
 use Rattle.scenarios.specs.Steps.{next_turn}
-use Rattle.scenarios.specs.Edges.{Walking, Moved, cells_at, turn_at, edge_of, left_of}
+use Rattle.scenarios.specs.Edges.{Moved, cells_at, turn_at, edge_of, left_of}
 use Rattle.scenarios.proofs.Onward.{left_here, left_moved, left_ended, left_among}
 use Rattle.scenarios.proofs.Locating.{Found, Seeking, seek_found, seek_on}
 
@@ -76,10 +76,10 @@ pub record Unranked (n R rank : ℕ) (old ws : List RoundScenario) (i s left : �
 
 -- the walk stands at an edge, with v continuations behind it
 
-module _ (n R d s rank left v : ℕ) (h : 0 < n) (l : d < R) (lay : Among (layer n d) s) (e : Edges) (w : Walking e) (cs : cells_at e ≡ cells n s)
+module _ (n R d s rank left v : ℕ) (h : 0 < n) (l : d < R) (lay : Among (layer n d) s) (e : Edges) (cs : cells_at e ≡ cells n s)
     (seek : Seeking (R - (d + 1)) (cells n s) rank (left_of e) left) where
   pub edge_among : Among (turns (cells n s)) (turn_at e)
-  edge_among = subst (λ x. Among (turns x) (turn_at e)) cs (left_among e w)
+  edge_among = subst (λ x. Among (turns x) (turn_at e)) cs (left_among e)
 
   module _ (x : TransitionEdge) (is : x ≡ edge_of (turn_at e)) where
     pub edge_layered : Among (layer n (d + 1)) x.next.boundaries
@@ -105,17 +105,17 @@ module _ (n R d s rank left v : ℕ) (h : 0 < n) (l : d < R) (lay : Among (layer
 
       pub edge_found : left < x.multiplicity * v → Found (R - (d + 1)) (cells n s) rank (turn_at e) left
       edge_found b =
-          let q = left_here e w in
+          let q = left_here e in
           seek_found (R - (d + 1)) (cells n s) rank (turn_at e) q.0 left (first_left q.0 q.1) (subst (λ k. left < k) edge_size b) (suffix_some n R d s h l lay (turn_at e) edge_among)
 
       pub edge_passed : (f : Edges) → Moved e f → x.multiplicity * v ≤ left → Seeking (R - (d + 1)) (cells n s) rank (left_of f) (left - x.multiplicity * v)
       edge_passed f m b =
           subst (λ k. Seeking (R - (d + 1)) (cells n s) rank (left_of f) (left - k)) (sym edge_size)
-          (seek_on (R - (d + 1)) (cells n s) rank (turn_at e) (left_of f) left (first_left (left_of f) (left_moved e f w m)) (subst (λ k. k ≤ left) edge_size b))
+          (seek_on (R - (d + 1)) (cells n s) rank (turn_at e) (left_of f) left (first_left (left_of f) (left_moved e f m)) (subst (λ k. k ≤ left) edge_size b))
 
       pub edge_last : next_turn (cells_at e) (turn_at e) ≡ None → x.multiplicity * v ≤ left → ⊥
       edge_last q b =
-          let k = (seek_on (R - (d + 1)) (cells n s) rank (turn_at e) [] left (first_left [] (left_ended e w q)) (subst (λ m. m ≤ left) edge_size b)).below in
+          let k = (seek_on (R - (d + 1)) (cells n s) rank (turn_at e) [] left (first_left [] (left_ended e q)) (subst (λ m. m ≤ left) edge_size b)).below in
           omega arith
 
 -- all of this together
@@ -129,22 +129,22 @@ pub record AtEdge (n R d s rank left v : ℕ) (e : Edges) (x : TransitionEdge) :
   pub passed : (f : Edges) → Moved e f → x.multiplicity * v ≤ left → Seeking (R - (d + 1)) (cells n s) rank (left_of f) (left - x.multiplicity * v)
   pub ended : next_turn (cells_at e) (turn_at e) ≡ None → x.multiplicity * v ≤ left → ⊥
 
-pub at_edge : (n R d s rank left v : ℕ) (h : 0 < n) (l : d < R) (lay : Among (layer n d) s) (e : Edges) (w : Walking e) (cs : cells_at e ≡ cells n s)
+pub at_edge : (n R d s rank left v : ℕ) (h : 0 < n) (l : d < R) (lay : Among (layer n d) s) (e : Edges) (cs : cells_at e ≡ cells n s)
     → Seeking (R - (d + 1)) (cells n s) rank (left_of e) left → (x : TransitionEdge) → x ≡ edge_of (turn_at e)
     → (Among (layer n (d + 1)) x.next.boundaries → v ≡ count (R - (d + 1)) (cells n x.next.boundaries))
     → count R (n ∷ []) < 2 ^ 64 → AtEdge n R d s rank left v e x
-at_edge n R d s rank left v h l lay e w cs seek x is v_found small =
-    let v_is = v_found (edge_layered n R d s rank left v h l lay e w cs seek x is) in
-    let k = edge_small n R d s rank left v h l lay e w cs seek x is v_is small in
+at_edge n R d s rank left v h l lay e cs seek x is v_found small =
+    let v_is = v_found (edge_layered n R d s rank left v h l lay e cs seek x is) in
+    let k = edge_small n R d s rank left v h l lay e cs seek x is v_is small in
     record {
       mult_small = k.0;
       size_small = k.1;
-      some = edge_some n R d s rank left v h l lay e w cs seek x is v_is;
-      suffix = edge_suffix n R d s rank left v h l lay e w cs seek x is v_is;
+      some = edge_some n R d s rank left v h l lay e cs seek x is v_is;
+      suffix = edge_suffix n R d s rank left v h l lay e cs seek x is v_is;
       next_is = ap (λ y. y.next.boundaries) is;
-      found = edge_found n R d s rank left v h l lay e w cs seek x is v_is;
-      passed = edge_passed n R d s rank left v h l lay e w cs seek x is v_is;
-      ended = edge_last n R d s rank left v h l lay e w cs seek x is v_is;
+      found = edge_found n R d s rank left v h l lay e cs seek x is v_is;
+      passed = edge_passed n R d s rank left v h l lay e cs seek x is v_is;
+      ended = edge_last n R d s rank left v h l lay e cs seek x is v_is;
     }
 
 pub unranked_start : (n R rank : ℕ) (old : List RoundScenario) (s : ℕ) → 0 < n → s ≡ 0 → rank < count R (n ∷ []) → Unranked n R rank old old 0 s rank

@@ -8,7 +8,7 @@ use Rattle.scenarios.specs.Cells.{cells, boundaries}
 use Rattle.scenarios.specs.Turns.{Turn, turns, weight, after}
 use Rattle.scenarios.specs.Fits.{Among}
 use Rattle.scenarios.specs.Steps.{next_turn}
-use Rattle.scenarios.specs.Edges.{cells_at, turn_at, edge_of, Walking, Moved, left_of}
+use Rattle.scenarios.specs.Edges.{cells_at, turn_at, edge_of, Moved, left_of}
 use Rattle.scenarios.specs.Scenarios.{sum_of, count}
 use Rattle.scenarios.specs.Counting.{note, noted, place, same_place, places, Slot, entry, zero_slot}
 use Rattle.scenarios.specs.Slots.{Settled, afters, turned, value_at, Valued, Finds}
@@ -26,11 +26,11 @@ turned_all n m ps p ts e =
     ap (noted same_place ps) (ap (map (turned m)) e ∙ sym (map-map (place m) (λ t. boundaries (after t)) (turns (cells n p.state.boundaries))))
 
 -- what a walk has yet to see begins with the turn at which it stands
-pub left_stands : (e : Edges) → Walking e → (rest : List Turn) × (left_of e ≡ turn_at e ∷ rest)
-left_stands e w = let a = left_among e w in (a.1, left_split e w a.0 a.1 a.2)
+pub left_stands : (e : Edges) → (rest : List Turn) × (left_of e ≡ turn_at e ∷ rest)
+left_stands e = let a = left_among e in (a.1, left_split e a.0 a.1 a.2)
 
 -- a walk stands at e, whose edge is x; behind qs the places after the turns that are left make all
-module _ (m : ℕ) (all qs : List Place) (e : Edges) (w : Walking e) (h : noted same_place qs (map (turned m) (left_of e)) ≡ all) (x : TransitionEdge) (is : x ≡ edge_of (turn_at e)) where
+module _ (m : ℕ) (all qs : List Place) (e : Edges) (h : noted same_place qs (map (turned m) (left_of e)) ≡ all) (x : TransitionEdge) (is : x ≡ edge_of (turn_at e)) where
   abbrev with_next : List Place
   with_next = note same_place qs (record { depth = m; state = x.next })
 
@@ -40,31 +40,31 @@ module _ (m : ℕ) (all qs : List Place) (e : Edges) (w : Walking e) (h : noted 
       ∙ ap (λ l. noted same_place qs (map (turned m) l)) (sym s) ∙ h
 
   pub note_moved : (f : Edges) → Moved e f → noted same_place with_next (map (turned m) (left_of f)) ≡ all
-  note_moved f v = note_turn (left_of f) (left_moved e f w v)
+  note_moved f v = note_turn (left_of f) (left_moved e f v)
 
   pub note_ended : next_turn (cells_at e) (turn_at e) ≡ None → with_next ≡ all
-  note_ended v = note_turn [] (left_ended e w v)
+  note_ended v = note_turn [] (left_ended e v)
 
   pub note_short : length with_next ≤ length all
   note_short =
-      let s = left_stands e w in
+      let s = left_stands e in
       let l = noted_longer same_place with_next (map (turned m) s.0) in
       let b = ap length (note_turn s.0 s.1) in
       omega arith
 
 -- a walk stands at e, whose edge is x, and for the place after it v is found; a is the sum so far, and with the turns that are left it makes S
-module _ (f : Turn → ℕ) (m len a S : ℕ) (ys : List Slot) (e : Edges) (w : Walking e) (h : Finds f m len ys (left_of e) × (a + sum_of f (left_of e) ≡ S))
+module _ (f : Turn → ℕ) (m len a S : ℕ) (ys : List Slot) (e : Edges) (h : Finds f m len ys (left_of e) × (a + sum_of f (left_of e) ≡ S))
     (x : TransitionEdge) (is : x ≡ edge_of (turn_at e)) (v : ℕ) (d : Valued (record { depth = m; state = x.next }) len ys v) where
   adds : (0 < v) × (f (turn_at e) ≡ x.multiplicity * v)
   adds =
-      let s = left_stands e w in
+      let s = left_stands e in
       let there = subst (λ l. Among l (turn_at e)) (sym s.1) (among_here (turn_at e) s.0) in
       let r = h.0 (turn_at e) there v (subst (λ y. Valued (record { depth = m; state = y.next }) len ys v) is d) in
       (r.0, r.1 ∙ ap (λ y. y.multiplicity * v) (sym is))
 
   pub sum_moved : (b : ℕ) (g : Edges) → (0 < v → b ≡ a + x.multiplicity * v) → Moved e g → Finds f m len ys (left_of g) × (b + sum_of f (left_of g) ≡ S)
   sum_moved b g q u =
-      let s = left_moved e g w u in
+      let s = left_moved e g u in
       let y = ap (sum_of f) s in
       let z = q adds.0 in
       let t = adds.1 in
@@ -72,10 +72,10 @@ module _ (f : Turn → ℕ) (m len a S : ℕ) (ys : List Slot) (e : Edges) (w : 
       ((λ t n. h.0 t (subst (λ l. Among l t) (sym s) (among_more (turn_at e) (left_of g) t n))), (omega arith))
 
   pub sum_ended : (b : ℕ) → (0 < v → b ≡ a + x.multiplicity * v) → next_turn (cells_at e) (turn_at e) ≡ None → b ≡ S
-  sum_ended b q u = let y = ap (sum_of f) (left_ended e w u) in let z = q adds.0 in let t = adds.1 in let k = h.1 in omega arith
+  sum_ended b q u = let y = ap (sum_of f) (left_ended e u) in let z = q adds.0 in let t = adds.1 in let k = h.1 in omega arith
 
   pub sum_large : (b : ℕ) → (0 < v → b ≤ a + x.multiplicity * v) → b ≤ S
-  sum_large b q = let y = ap (sum_of f) (left_stands e w).1 in let z = q adds.0 in let t = adds.1 in let k = h.1 in omega arith
+  sum_large b q = let y = ap (sum_of f) (left_stands e).1 in let z = q adds.0 in let t = adds.1 in let k = h.1 in omega arith
 
 -- what a turn adds to the count of a place
 abbrev pub share : ℕ → Place → Turn → ℕ

@@ -3,7 +3,6 @@ use Rattle.std.proofs.Common.{◌≡◌, ℕ, suc, ◌+◌, ◌-◌, ◌<◌, �
 use Rattle.std.specs.List.{AllByRecursion, range_with_len, refill}
 use Rattle.std.proofs.lemmas.List.{append-nil, drop_all, take_all, length-map, get_or-map}
 use Rattle.std.proofs.lemmas.Bool.{lt-ltb, cond-true}
-use Rattle.arrayvec.specs.ArrayVec.{ArrayVec}
 use Rattle.scenarios.specs.declared.participants.Participants.{Participants}
 use Rattle.scenarios.specs.declared.edge.SplitCell.{SplitCell}
 use Rattle.scenarios.specs.declared.edge.Edges.{Edges}
@@ -12,11 +11,10 @@ use Rattle.scenarios.specs.Cells.{total, cut, cells, CellsOf, ranges_from}
 use Rattle.scenarios.specs.Turns.{Turn}
 use Rattle.scenarios.specs.Fits.{Fits}
 use Rattle.scenarios.specs.Steps.{first_fill, next_fill, first_turn, next_turn}
-use Rattle.scenarios.specs.Edges.{fill_in, sizes_of, ranges_in, sizes_in, cells_at, turn_at, Walking, Begun, Moved}
+use Rattle.scenarios.specs.Edges.{fill_in, sizes_of, ranges_in, sizes_in, cells_at, turn_at, Stands, Moved}
 use Rattle.scenarios.proofs.Composing.{through}
-use Rattle.scenarios.proofs.Walks.{turn, turn_from, next_turn_is, next_fits, first_fits}
+use Rattle.scenarios.proofs.Walks.{turn, turn_from, next_turn_is, next_fits, first_fits, first_fits_led}
 use Rattle.std.proofs.ByRecursion.{All-get_or}
-use Rattle.scenarios.proofs.Moving.{part_most}
 use Rattle.scenarios.proofs.States.{cells_stand}
 use Rattle.scenarios.proofs.Filling.{ranges_long, cells_long}
 
@@ -46,28 +44,27 @@ cells_some n s = cut_some 1 (map (bit s) (range_with_len 0 (n - 1)))
 pub walk_small_cells : (n s : ℕ) → 0 < n → n ≤ 64 → AllByRecursion (λ c. (0 < c) × (c ≤ 64)) (cells n s)
 walk_small_cells n s h b = let w = cells_stand n s h in small_cells 64 (cells n s) w.filled (omega (arith, w.whole))
 
-pub walk_begins : (p : Participants) (s : ℕ) (ranges : List (ℕ × ℕ)) (cs : ArrayVec SplitCell) → ranges ≡ ranges_from 0 (cells p.number s)
-    → (fill_in cs.items ≡ first_fill 0 0 (sizes_of ranges)) × (ranges_in cs.items ≡ ranges)
-    → Begun p.number (cells p.number s) (record { participants = p; cells = cs; leader = 0 })
-walk_begins p s ranges cs listed put =
-    let n = p.number in
-    let h = p.within.0 in
-    let at : sizes_in cs.items ≡ cells n s = ap sizes_of (put.1 ∙ listed) ∙ sizes_ranges 0 (cells n s) in
-    let some : 1 ≤ length (cells n s) = cells_some n s in
-    let w : CellsOf n (sizes_in cs.items) = subst (CellsOf n) (sym at) (cells_stand n s h) in
-    let l = ap length at in
-    let t : ◌≡◌ {A = Turn} (record { leader = 0; fill = fill_in cs.items }) (first_turn (sizes_in cs.items)) = ap (turn 0) (put.0 ∙ ap (λ rs. first_fill 0 0 (sizes_of rs)) (sym put.1)) in
-    record {
-      walking = record {
-        some = omega (arith, cells_long cs.items);
-        ranged = put.1 ∙ listed ∙ ap (ranges_from 0) (sym at);
+module _ (p : Participants) (s : ℕ) (ranges : List (ℕ × ℕ)) (cs : List SplitCell) (listed : ranges ≡ ranges_from 0 (cells p.number s))
+    (put : (fill_in cs ≡ first_fill 0 0 (sizes_of ranges)) × (ranges_in cs ≡ ranges)) where
+  pub begins_at : sizes_in cs ≡ cells p.number s
+  begins_at = ap sizes_of (put.1 ∙ listed) ∙ sizes_ranges 0 (cells p.number s)
+
+  begins_first : ◌≡◌ {A = Turn} (turn 0 (fill_in cs)) (first_turn (sizes_in cs))
+  begins_first = ap (turn 0) (put.0 ∙ ap (λ rs. first_fill 0 0 (sizes_of rs)) (sym put.1))
+
+  pub begins_turn : ◌≡◌ {A = Turn} (turn 0 (fill_in cs)) (first_turn (cells p.number s))
+  begins_turn = begins_first ∙ ap first_turn begins_at
+
+  pub begins_stands : Stands p.number cs 0
+  begins_stands =
+      let w : CellsOf p.number (sizes_in cs) = subst (CellsOf p.number) (sym begins_at) (cells_stand p.number s p.within.0) in
+      let some : 1 ≤ length (sizes_in cs) = omega (arith, ap length begins_at, cells_some p.number s) in
+      record {
+        some = omega (arith, cells_long cs);
+        ranged = put.1 ∙ listed ∙ ap (ranges_from 0) (sym begins_at);
         whole = w;
-        fits = subst (Fits (sizes_in cs.items)) (sym t) (first_fits n (sizes_in cs.items) w (omega arith));
-      };
-      of = refl;
-      at = at;
-      first = t ∙ ap first_turn at;
-    }
+        fits = subst (Fits (sizes_in cs)) (sym begins_first) (first_fits p.number (sizes_in cs) w some);
+      }
 
 pub range_small : (n s : ℕ) (rs : List (ℕ × ℕ)) (i : ℕ) → 0 < n → n ≤ 64 → rs ≡ ranges_from 0 (cells n s) → i < length rs → 0 < (get_or rs i (0, 0)).1
 range_small n s rs i h b e k =
@@ -85,42 +82,86 @@ refilled xs ws e =
 stepped : (cs : List ℕ) (l : ℕ) (f : List (List ℕ)) (o : Option (List (List ℕ))) → next_fill l 0 cs f ≡ o → next_turn cs (turn l f) ≡ through (turn l) (turn_from cs (l + 1)) o
 stepped cs l f o e = next_turn_is cs l f ∙ ap (through (turn l) (turn_from cs (l + 1))) e
 
-module _ (e : Edges) (w : Walking e) where
+module _ (e : Edges) where
   pub walk_small : AllByRecursion (λ c. (0 < c) × (c ≤ 64)) (cells_at e)
-  walk_small = small_cells 64 (cells_at e) w.whole.filled (let t = w.whole.whole in let b = e.participants.within.1 in omega arith)
+  walk_small = small_cells 64 (cells_at e) e.stands.whole.filled (let t = e.stands.whole.whole in let b = e.participants.within.1 in omega arith)
 
   long_cells : length (cells_at e) ≡ length e.cells.items
   long_cells = cells_long e.cells.items
 
-  pub walk_some : 1 ≤ e.participants.number
-  walk_some =
-      let some = All-get_or (λ c. 0 < c) (cells_at e) 0 0 (omega (arith, long_cells, w.some)) w.whole.filled in
-      let most = part_most (cells_at e) 0 in
-      omega (arith, w.whole.whole)
+  module _ (cs : List SplitCell) (placed : ranges_in cs ≡ ranges_in e.cells.items) where
+    pub same_cells : sizes_in cs ≡ cells_at e
+    same_cells = ap sizes_of placed
 
-  module _ (cs : ArrayVec SplitCell) (placed : ranges_in cs.items ≡ ranges_in e.cells.items) where
-    same : sizes_in cs.items ≡ cells_at e
-    same = ap sizes_of placed
-
-    pub walk_moves : (l : ℕ) → next_turn (cells_at e) (turn_at e) ≡ Some (turn l (fill_in cs.items)) → Moved e (record { participants = e.participants; cells = cs; leader = l })
-    walk_moves l n = record {
-      walking = record {
-        some = omega (arith, ap length placed, ranges_long cs.items, ranges_long e.cells.items, w.some);
-        ranged = placed ∙ w.ranged ∙ ap (ranges_from 0) (sym same);
-        whole = subst (CellsOf e.participants.number) (sym same) w.whole;
-        fits = subst (λ xs. Fits xs (turn l (fill_in cs.items))) (sym same) (next_fits e.participants.number (cells_at e) (turn_at e) (turn l (fill_in cs.items)) w.whole w.fits n);
-      };
-      of = refl;
-      at = same;
-      next = n;
+    -- where only the splits change, what holds of the cells still holds
+    pub walk_stands : (l : ℕ) → Fits (cells_at e) (turn l (fill_in cs)) → Stands e.participants.number cs l
+    walk_stands l f = record {
+      some = omega (arith, ap length placed, ranges_long cs, ranges_long e.cells.items, e.stands.some);
+      ranged = placed ∙ e.stands.ranged ∙ ap (ranges_from 0) (sym same_cells);
+      whole = subst (CellsOf e.participants.number) (sym same_cells) e.stands.whole;
+      fits = subst (λ xs. Fits xs (turn l (fill_in cs))) (sym same_cells) f;
     }
 
-    pub walk_on : next_fill e.leader 0 (cells_at e) (fill_in e.cells.items) ≡ Some (fill_in cs.items) → Moved e (record { participants = e.participants; cells = cs; leader = e.leader })
-    walk_on n = walk_moves e.leader (stepped (cells_at e) e.leader (fill_in e.cells.items) _ n)
+    stands_next : (l : ℕ) → next_turn (cells_at e) (turn_at e) ≡ Some (turn l (fill_in cs)) → Stands e.participants.number cs l
+    stands_next l n = walk_stands l (next_fits e.participants.number (cells_at e) (turn_at e) (turn l (fill_in cs)) e.stands.whole e.stands.fits n)
 
-    pub walk_over : next_fill e.leader 0 (cells_at e) (fill_in e.cells.items) ≡ None → e.leader + 1 < length e.cells.items
-        → fill_in cs.items ≡ first_fill (e.leader + 1) 0 (cells_at e) → Moved e (record { participants = e.participants; cells = cs; leader = e.leader + 1 })
-    walk_over n h b = walk_moves (e.leader + 1)
-        (stepped (cells_at e) e.leader (fill_in e.cells.items) None n
-        ∙ cond-true (ltb (e.leader + 1) (length (cells_at e))) _ _ (lt-ltb (e.leader + 1) (length (cells_at e)) (omega (arith, long_cells)))
-        ∙ ap (λ f. Some (turn (e.leader + 1) f)) (sym b))
+    -- all cells are back at their first splits, with the same leader
+    stands_again : fill_in cs ≡ first_fill e.leader 0 (cells_at e) → Stands e.participants.number cs e.leader
+    stands_again b = walk_stands e.leader (subst (λ f. Fits (cells_at e) (turn e.leader f)) (sym b) (first_fits_led e.participants.number (cells_at e) e.leader e.stands.whole e.stands.fits.leads))
+
+-- what a step leaves of the cells, which are xs as the code holds them
+pub record StepLeaves (e : Edges) (xs : List SplitCell) (l : ℕ) : Type 0 where
+  pub placed : ranges_in xs ≡ ranges_in e.cells.items
+  pub next : next_turn (cells_at e) (turn_at e) ≡ Some (turn l (fill_in xs))
+
+pub left_stands : (e : Edges) (xs : List SplitCell) (l : ℕ) → StepLeaves e xs l → Stands e.participants.number xs l
+left_stands e xs l s = stands_next e xs s.placed l s.next
+
+pub left_moves : (e f : Edges) → f.participants.number ≡ e.participants.number → StepLeaves e f.cells.items f.leader → Moved e f
+left_moves e f p s = record { of = p; at = same_cells e f.cells.items s.placed; next = s.next }
+
+-- the cells are lent, and now stand as the step to the next splits leaves them
+module _ (e : Edges) (lent now : List SplitCell) (value : lent ≡ e.cells.items) (even : length now ≡ length lent) (placed : ranges_in now ≡ ranges_in lent) where
+  held : List SplitCell
+  held = refill (length e.cells.items) e.cells.items now
+
+  held_is : held ≡ now
+  unfolding held
+  held_is = refilled e.cells.items now (even ∙ ap length value)
+
+  places : ranges_in now ≡ ranges_in e.cells.items
+  places = placed ∙ ap ranges_in value
+
+  pub left_on : next_fill e.leader 0 (sizes_in lent) (fill_in lent) ≡ Some (fill_in now) → StepLeaves e (refill (length e.cells.items) e.cells.items now) e.leader
+  unfolding held
+  left_on n = subst (λ xs. StepLeaves e xs e.leader) (sym held_is) (record {
+    placed = places;
+    next = stepped (cells_at e) e.leader (fill_in e.cells.items) _ (ap (λ xs. next_fill e.leader 0 (sizes_in xs) (fill_in xs)) (sym value) ∙ n);
+  })
+
+  pub left_again : fill_in now ≡ first_fill e.leader 0 (sizes_in lent) → Stands e.participants.number (refill (length e.cells.items) e.cells.items now) e.leader
+  unfolding held
+  left_again b = subst (λ xs. Stands e.participants.number xs e.leader) (sym held_is) (stands_again e now places (b ∙ ap (λ xs. first_fill e.leader 0 (sizes_in xs)) value))
+
+  -- they are lent again
+  module _ (again : List SplitCell) (value' : again ≡ refill (length e.cells.items) e.cells.items now) where
+    again_placed : ranges_in again ≡ ranges_in e.cells.items
+    unfolding held
+    again_placed = ap ranges_in (value' ∙ held_is) ∙ places
+
+    pub again_small : AllByRecursion (λ c. (0 < c) × (c ≤ 64)) (sizes_in again)
+    again_small = subst (λ rs. AllByRecursion (λ c. (0 < c) × (c ≤ 64)) (sizes_of rs)) (sym again_placed) (walk_small e)
+
+    pub left_over : (xs last : List SplitCell) → xs ≡ refill (length e.cells.items) e.cells.items now → length last ≡ length again → ranges_in last ≡ ranges_in again
+        → next_fill e.leader 0 (sizes_in lent) (fill_in lent) ≡ None → e.leader + 1 < length xs → fill_in last ≡ first_fill (e.leader + 1) 0 (sizes_in again)
+        → StepLeaves e (refill (length xs) xs last) (e.leader + 1)
+    unfolding held
+    left_over xs last is even' placed' n h b =
+        let l : e.leader + 1 < length (cells_at e) = omega (arith, ap length is, ap length held_is, even, ap length value, long_cells e) in
+        subst (λ ys. StepLeaves e ys (e.leader + 1)) (sym (refilled xs last (even' ∙ ap length value' ∙ ap length (sym is)))) (record {
+          placed = placed' ∙ again_placed;
+          next =
+              stepped (cells_at e) e.leader (fill_in e.cells.items) None (ap (λ ys. next_fill e.leader 0 (sizes_in ys) (fill_in ys)) (sym value) ∙ n)
+              ∙ cond-true (ltb (e.leader + 1) (length (cells_at e))) _ _ (lt-ltb (e.leader + 1) (length (cells_at e)) l)
+              ∙ ap (λ f. Some (turn (e.leader + 1) f)) (sym (b ∙ ap (λ rs. first_fill (e.leader + 1) 0 (sizes_of rs)) again_placed));
+        })

@@ -117,6 +117,9 @@ next_fits n cs t u cells h e =
     let at = in_from_among (turns cs) t ((turns_fit n cs cells t).1 h) in
     (turns_fit n cs cells u).0 (among_from_in (turns cs) u (chain_next_in (next_turn cs) (turns cs) t u (turns_from cs).0 at e))
 
+-- where all cells stand at their first splits, any of them may lead
+pub first_fits_led : (n : ℕ) (cs : List ℕ) (l : ℕ) → CellsOf n cs → l < length cs → Fits cs (turn l (first_fill l 0 cs))
+first_fits_led n cs l cells h = record { leads = h; split = in_fills l 0 cs (first_fill l 0 cs) cells.filled (first_in (fills l 0 cs) (first_fill l 0 cs) (fills_walk l 0 cs).1) }
+
 pub first_fits : (n : ℕ) (cs : List ℕ) → CellsOf n cs → 0 < length cs → Fits cs (first_turn cs)
-first_fits n cs cells h =
-    (turns_fit n cs cells (first_turn cs)).0 (among_from_in (turns cs) (first_turn cs) (first_in (turns cs) (first_turn cs) (first_or_none (turns cs) ∙ turns_begin n cs cells h)))
+first_fits n cs cells h = first_fits_led n cs 0 cells h

@@ -11,6 +11,7 @@ pub mod Claims
 pub mod Worked
 pub mod Roles
 pub mod Refinements
+pub mod Standing
 pub mod Edges
 pub mod Plans
 pub mod Readings

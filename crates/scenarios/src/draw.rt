@@ -7,7 +7,7 @@ ghost use Rattle.scenarios.specs.Turns.{spell, tones, ways, weight};
 ghost use Rattle.scenarios.specs.Fits.{Split};
 ghost use Rattle.scenarios.specs.Roles.{number, letters};
 ghost use Rattle.scenarios.specs.Refinements.{sizes};
-ghost use Rattle.scenarios.specs.Edges.{turn_at, Walking};
+ghost use Rattle.scenarios.specs.Edges.{turn_at};
 
 use crate::edge::{Edges, SplitCell};
 use crate::mask::set_mask_range;
@@ -89,8 +89,7 @@ fn draw_cell(round: RoundScenario, cell: SplitCell, led: bool, digit: u64) -> Ro
 // The round of the edge at which the walk stands, and of a number below the edge's weight. The first cell has the
 // lowest digit of the number.
 pub(crate) fn round_at(edges: &Edges, rank: u128) -> RoundScenario
-    requires walking { Walking edges.now }
-    requires below { rank < weight (turn_at edges.now) }
+    requires { rank < weight (turn_at edges.now) }
     ensures { result ≡ turns.round (turn_at edges.now) rank }
 {
     let cells = edges.cells.as_slice();

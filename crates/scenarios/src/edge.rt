@@ -1,10 +1,10 @@
 // The edges of a residual state, walked in their order.
-ghost use Rattle.std.specs.Prelude.{◌≡◌, ◌+◌, ◌*◌, ◌^◌, ◌<◌, ◌≤◌};
+ghost use Rattle.std.specs.Prelude.{◌≡◌, false, ◌+◌, ◌*◌, ◌^◌, ◌<◌, ◌≤◌};
 ghost use Rattle.std.specs.List.{AllByRecursion};
 ghost use Rattle.scenarios.specs.Fits.{Fills};
 ghost use Rattle.scenarios.specs.Cells as cells;
 ghost use Rattle.scenarios.specs.Steps.{first_fill, next_fill};
-ghost use Rattle.scenarios.specs.Edges.{sizes_in, ranges_in, fill_in, Stepped, Walking, Begun, Advanced, turn_at, edge_of, edge_in};
+ghost use Rattle.scenarios.specs.Standing.{sizes_in, ranges_in, fill_in, Stands, Stands-prop, Stepped, edge_in};
 
 use crate::cell::CellState;
 use crate::mask::set_mask_range;
@@ -35,14 +35,16 @@ pub(crate) struct Edges {
     pub(crate) cells: ArrayVec<SplitCell, 64>,
     // the place of the cell whose last member leads
     pub(crate) leader: usize,
+    ghost stands: { Stands participants.number cells.items leader } by { Stands-prop participants.number cells.items leader },
 }
 
 // Moves on to the next splits of the cells: the last cell that has a next split takes it, and those behind it begin again.
-// False where no cell has one; there is no value to answer beside it.
+// False where no cell has one, and then all begin again; there is no value to answer beside it.
 fn next_splits(cells: &mut [SplitCell], leader: usize) -> bool
     requires filled { Fills leader 0 (sizes_in cells.old) (fill_in cells.old) }
     requires small { AllByRecursion (λ c. (0 < c) × (c ≤ 64)) (sizes_in cells.old) }
     ensures stepped { Stepped result (next_fill leader 0 (sizes_in cells.old) (fill_in cells.old)) (fill_in cells.new) }
+    ensures again { result ≡ false → fill_in cells.new ≡ first_fill leader 0 (sizes_in cells.old) }
     ensures placed { ranges_in cells.new ≡ ranges_in cells.old }
 {
     // Indexed, since a proof does not learn what a walk from the back by `iter_mut` leaves in the slice.
@@ -88,6 +90,8 @@ pub(crate) fn add_local_boundaries(mask: u64, start: usize, parts: &[usize]) -> 
 }
 
 impl Edges {
+    ghost use Rattle.scenarios.specs.Edges.{Begun, Advanced, turn_at, edge_of};
+
     // The walk over the edges of a state, at its first edge.
     pub(crate) fn of(participants: Participants, state: CellState) -> Edges
         ensures { Begun participants.number (cells.cells participants.number state.boundaries) result }
@@ -108,7 +112,6 @@ impl Edges {
 
     // Moves on to the next edge; false at the last.
     pub(crate) fn advance(&mut self) -> bool
-        requires { Walking self.old }
         ensures { Advanced self.old result self.new }
     {
         if next_splits(self.cells.as_mut_slice(), self.leader) {
@@ -124,7 +127,6 @@ impl Edges {
 
     // The edge at which the walk stands.
     pub(crate) fn edge(&self) -> TransitionEdge
-        requires { Walking self.now }
         ensures { result ≡ edge_of (turn_at self.now) }
     {
         let mut ends: u64 = 0;

@@ -8,22 +8,16 @@ use Rattle.scenarios.proofs.Turning.{turned_all, note_moved, note_ended, note_sh
 use Rattle.scenarios.proofs.counting.note_nexts.Goals as goal
 
 pub loop-used-init : goal.loop-used-init
-loop-used-init c = (c.of-edges.ensures.walking, λ ps xs h. (ps, h, refl))
-
-pub edge-requires : goal.edge-requires
-edge-requires c = c.loop-used.invariant.0
-
-pub advance-requires : goal.advance-requires
-advance-requires c = c.loop-used.invariant.0
+loop-used-init c ps xs h = (ps, h, refl)
 
 pub returns-in_err-used : goal.returns-in_err-used
 returns-in_err-used c ps xs h =
     let n = c.args.participants.number in
     let m = c.args.depth in
     let p = c.args.place in
-    let i = c.loop-used.invariant.1 ps xs h in
+    let i = c.loop-used.invariant ps xs h in
     let ts = left_of c.of-edges.result in
-    let s = note_short m (noted same_place ps (map (turned m) ts)) i.0 c.loop-used.edges c.loop-used.invariant.0 i.2 c.edge.result c.edge.ensures in
+    let s = note_short m (noted same_place ps (map (turned m) ts)) i.0 c.loop-used.edges i.2 c.edge.result c.edge.ensures in
     let b : length xs < length (note same_place i.0 (place m c.edge.result.next.boundaries)) = c.in_err-used.ensures i.0 xs i.1 in
     let all = noted same_place ps (afters n m p) in
     let q = ap length (turned_all n m ps p ts (left_begun n (cells n p.state.boundaries) c.of-edges.result c.of-edges.ensures)) in
@@ -35,24 +29,21 @@ returns-then-not-advance c ps xs h =
     let n = c.args.participants.number in
     let m = c.args.depth in
     let p = c.args.place in
-    let i = c.loop-used.invariant.1 ps xs h in
+    let i = c.loop-used.invariant ps xs h in
     let ts = left_of c.of-edges.result in
-    let s = note_ended m (noted same_place ps (map (turned m) ts)) i.0 c.loop-used.edges c.loop-used.invariant.0 i.2 c.edge.result c.edge.ensures c.if-not-advance.ensures in
+    let s = note_ended m (noted same_place ps (map (turned m) ts)) i.0 c.loop-used.edges i.2 c.edge.result c.edge.ensures c.if-not-advance.ensures in
     let q = turned_all n m ps p ts (left_begun n (cells n p.state.boundaries) c.of-edges.result c.of-edges.ensures) in
     subst (λ l. Holds l c.in_ok-used.used xs c.note_place.new.slots) (s ∙ q) (c.in_ok-used.ensures i.0 xs i.1)
 
 pub loop-used-smaller : goal.loop-used-smaller
 loop-used-smaller c =
-    let l = ap length (left_moved c.loop-used.edges c.advance.new.self c.loop-used.invariant.0 c.if-not-advance.ensures) in
+    let l = ap length (left_moved c.loop-used.edges c.advance.new.self c.if-not-advance.ensures) in
     omega arith
 
 pub loop-used-preserved : goal.loop-used-preserved
-loop-used-preserved c = (
-  c.if-not-advance.ensures.walking,
-  λ ps xs h.
-      let m = c.args.depth in
-      let i = c.loop-used.invariant.1 ps xs h in
-      let all = noted same_place ps (map (turned m) (left_of c.of-edges.result)) in
-      let s = note_moved m all i.0 c.loop-used.edges c.loop-used.invariant.0 i.2 c.edge.result c.edge.ensures c.advance.new.self c.if-not-advance.ensures in
-      (note same_place i.0 (place m c.edge.result.next.boundaries), c.in_ok-used.ensures i.0 xs i.1, s),
-)
+loop-used-preserved c ps xs h =
+    let m = c.args.depth in
+    let i = c.loop-used.invariant ps xs h in
+    let all = noted same_place ps (map (turned m) (left_of c.of-edges.result)) in
+    let s = note_moved m all i.0 c.loop-used.edges i.2 c.edge.result c.edge.ensures c.advance.new.self c.if-not-advance.ensures in
+    (note same_place i.0 (place m c.edge.result.next.boundaries), c.in_ok-used.ensures i.0 xs i.1, s)

@@ -6,20 +6,20 @@ pub overflow_add-drawn : goal.overflow_add-drawn
 overflow_add-drawn c =
     let e = c.args.edges.now in
     let x = c.index-cells-edges.result in
-    let r = range_within e c.requires.walking e.leader x (c.index-cells-edges.is ∙ ap (λ xs. get_or xs e.leader x) c.as_slice-cells.ensures.value) (leader_within e c.requires.walking) in
+    let r = range_within e e.leader x (c.index-cells-edges.is ∙ ap (λ xs. get_or xs e.leader x) c.as_slice-cells.ensures.value) (leader_within e) in
     omega arith
 
 pub overflow_sub-drawn : goal.overflow_sub-drawn
 overflow_sub-drawn c =
     let e = c.args.edges.now in
     let x = c.index-cells-edges.result in
-    (range_within e c.requires.walking e.leader x (c.index-cells-edges.is ∙ ap (λ xs. get_or xs e.leader x) c.as_slice-cells.ensures.value) (leader_within e c.requires.walking)).0
+    (range_within e e.leader x (c.index-cells-edges.is ∙ ap (λ xs. get_or xs e.leader x) c.as_slice-cells.ensures.value) (leader_within e)).0
 
 pub loop-i-init : goal.loop-i-init
 loop-i-init c =
     let e = c.args.edges.now in
     let x = c.index-cells-edges.result in
-    coming_first e c.requires.walking c.args.rank c.requires.below x (c.index-cells-edges.is ∙ ap (λ xs. get_or xs e.leader x) c.as_slice-cells.ensures.value)
+    coming_first e c.args.rank c.requires x (c.index-cells-edges.is ∙ ap (λ xs. get_or xs e.leader x) c.as_slice-cells.ensures.value)
 
 pub multiplicity-space-requires : goal.multiplicity-space-requires
 multiplicity-space-requires c =
@@ -27,7 +27,7 @@ multiplicity-space-requires c =
     let x = c.index-cells-i.result in
     let value = c.as_slice-cells.ensures.value in
     let here = c.index-cells-i.is ∙ ap (λ xs. get_or xs c.loop-i.i x) value in
-    some_refined (eqb c.loop-i.i e.leader) _ x.split (split_here e c.requires.walking c.loop-i.i x here (omega (arith, c.loop-i-test.true, ap length value)))
+    some_refined (eqb c.loop-i.i e.leader) _ x.split (split_here e c.loop-i.i x here (omega (arith, c.loop-i-test.true, ap length value)))
 
 digit : (c : goal.After-draw_cell-arg-1) → (0 < c.multiplicity-space.result) × (c.loop-i.left % c.multiplicity-space.result < 18)
 digit c =
@@ -36,7 +36,7 @@ digit c =
     let value = c.as_slice-cells.ensures.value in
     let here = c.index-cells-i.is ∙ ap (λ xs. get_or xs c.loop-i.i x) value in
     let q = c.multiplicity-space.ensures in
-    let h = digit_of e c.requires.walking c.loop-i.i x here (omega (arith, c.loop-i-test.true, ap length value)) c.args.rank c.loop-i.left c.loop-i.drawn c.loop-i.invariant c.multiplicity-space.result q in
+    let h = digit_of e c.loop-i.i x here (omega (arith, c.loop-i-test.true, ap length value)) c.args.rank c.loop-i.left c.loop-i.drawn c.loop-i.invariant c.multiplicity-space.result q in
     let s = ways_small e c.loop-i.i x in
     (omega arith, omega arith)
 
@@ -49,17 +49,16 @@ overflow_cast-left c = let h = (digit c).1 in omega arith
 pub draw_cell-drawn-requires : goal.draw_cell-drawn-requires
 draw_cell-drawn-requires c =
     let e = c.args.edges.now in
-    let w = c.requires.walking in
     let i = c.loop-i.i in
     let x = c.index-cells-i.result in
     let value = c.as_slice-cells.ensures.value in
     let here = c.index-cells-i.is ∙ ap (λ xs. get_or xs i x) value in
     let within : i < length e.cells.items = omega (arith, c.loop-i-test.true, ap length value) in
     record {
-      below = below_here e w i x here within c.args.rank c.loop-i.left c.loop-i.drawn c.loop-i.invariant;
-      whole = split_here e w i x here within;
-      within = (range_within e w i x here within).1;
-      choice = digit_of e w i x here within c.args.rank c.loop-i.left c.loop-i.drawn c.loop-i.invariant c.multiplicity-space.result c.multiplicity-space.ensures;
+      below = below_here e i x here within c.args.rank c.loop-i.left c.loop-i.drawn c.loop-i.invariant;
+      whole = split_here e i x here within;
+      within = (range_within e i x here within).1;
+      choice = digit_of e i x here within c.args.rank c.loop-i.left c.loop-i.drawn c.loop-i.invariant c.multiplicity-space.result c.multiplicity-space.ensures;
     }
 
 pub nonzero_div-left : goal.nonzero_div-left
@@ -69,7 +68,7 @@ nonzero_div-left c =
     let value = c.as_slice-cells.ensures.value in
     let here = c.index-cells-i.is ∙ ap (λ xs. get_or xs c.loop-i.i x) value in
     let q = c.multiplicity-space.ensures in
-    let h = digit_of e c.requires.walking c.loop-i.i x here (omega (arith, c.loop-i-test.true, ap length value)) c.args.rank c.loop-i.left c.loop-i.drawn c.loop-i.invariant c.multiplicity-space.result q in
+    let h = digit_of e c.loop-i.i x here (omega (arith, c.loop-i-test.true, ap length value)) c.args.rank c.loop-i.left c.loop-i.drawn c.loop-i.invariant c.multiplicity-space.result q in
     omega arith
 
 pub loop-i-preserved : goal.loop-i-preserved
@@ -78,9 +77,9 @@ loop-i-preserved c =
     let x = c.index-cells-i.result in
     let value = c.as_slice-cells.ensures.value in
     let here = c.index-cells-i.is ∙ ap (λ xs. get_or xs c.loop-i.i x) value in
-    coming_more e c.requires.walking c.loop-i.i x here (omega (arith, c.loop-i-test.true, ap length value)) c.args.rank c.loop-i.left c.loop-i.drawn c.loop-i.invariant
+    coming_more e c.loop-i.i x here (omega (arith, c.loop-i-test.true, ap length value)) c.args.rank c.loop-i.left c.loop-i.drawn c.loop-i.invariant
     c.draw_cell-drawn.result c.multiplicity-space.result c.multiplicity-space.ensures c.draw_cell-drawn.ensures
 
 pub returns : goal.returns
 returns c =
-    coming_all c.args.edges.now c.requires.walking c.args.rank c.requires.below c.loop-i.i c.loop-i.left c.loop-i.drawn (omega (arith, c.loop-i-test.false, ap length c.as_slice-cells.ensures.value)) c.loop-i.invariant
+    coming_all c.args.edges.now c.args.rank c.requires c.loop-i.i c.loop-i.left c.loop-i.drawn (omega (arith, c.loop-i-test.false, ap length c.as_slice-cells.ensures.value)) c.loop-i.invariant

@@ -23,7 +23,7 @@ returns-then-not-advance c =
     let p = c.in_ok-new.field-0 in
     let s = c.args.state.boundaries in
     let b = left_begun p.number (cells p.number s) c.of-edges.result c.of-edges.ensures in
-    let e = sym c.loop.invariant.1 ∙ left_ended c.loop.edges c.loop.invariant.0 c.if-not-advance.ensures in
+    let e = sym c.loop.invariant ∙ left_ended c.loop.edges c.if-not-advance.ensures in
     sym (within p c.args.n s c.args.place c.in_ok-new.ensures
     ∙ ap (λ ts. slice_get (map edge_of ts) c.args.place) (sym b)
     ∙ nth_past edge_of (left_of c.of-edges.result) c.loop.counter c.args.place (turn_at c.loop.edges) e c.loop-test.true)
@@ -31,17 +31,17 @@ returns-then-not-advance c =
 pub loop-preserved : goal.loop-preserved
 loop-preserved c =
     let m = c.if-not-advance.ensures in
-    let e = sym c.loop.invariant.1 ∙ left_moved c.loop.edges c.advance.new.self c.loop.invariant.0 m in
-    (m.walking, sym (drop_next (left_of c.of-edges.result) c.loop.counter (turn_at c.loop.edges) (left_of c.advance.new.self) e))
+    let e = sym c.loop.invariant ∙ left_moved c.loop.edges c.advance.new.self m in
+    sym (drop_next (left_of c.of-edges.result) c.loop.counter (turn_at c.loop.edges) (left_of c.advance.new.self) e)
 
 pub returns : goal.returns
 returns c =
     let p = c.in_ok-new.field-0 in
     let s = c.args.state.boundaries in
     let b = left_begun p.number (cells p.number s) c.of-edges.result c.of-edges.ensures in
-    let here = left_here c.loop.edges c.loop.invariant.0 in
+    let here = left_here c.loop.edges in
     let at : c.loop.counter ≡ c.args.place = omega arith in
-    let e : drop c.args.place (left_of c.of-edges.result) ≡ turn_at c.loop.edges ∷ here.0 = ap (λ k. drop k (left_of c.of-edges.result)) (sym at) ∙ sym c.loop.invariant.1 ∙ here.1 in
+    let e : drop c.args.place (left_of c.of-edges.result) ≡ turn_at c.loop.edges ∷ here.0 = ap (λ k. drop k (left_of c.of-edges.result)) (sym at) ∙ sym c.loop.invariant ∙ here.1 in
     sym (within p c.args.n s c.args.place c.in_ok-new.ensures
     ∙ ap (λ ts. slice_get (map edge_of ts) c.args.place) (sym b)
     ∙ nth_at edge_of (left_of c.of-edges.result) c.args.place (turn_at c.loop.edges) here.0 e

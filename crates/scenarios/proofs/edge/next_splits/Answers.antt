@@ -1,4 +1,4 @@
-use Rattle.std.proofs.Common.{arith}
+use Rattle.std.proofs.Common.{◌≡◌, ℕ, arith}
 use Rattle.scenarios.proofs.Filling.{step_split, step_small, step_some, step_placed, step_none}
 use Rattle.scenarios.proofs.edge.next_splits.Goals as goal
 
@@ -11,6 +11,7 @@ next-requires c = record {
 pub returns-in-Some : goal.returns-in-Some
 returns-in-Some c = record {
   stepped = step_some c.args.leader c.args.cells.now c.loop-i.cells c.loop-i.i _ (omega arith) (omega arith) c.loop-i.invariant c.in-Some.split c.in-Some.ensures;
+  again = λ q. absurd (let z : ◌≡◌ {A = ℕ} 0 1 = cc in omega arith);
   placed = step_placed c.args.leader c.args.cells.now c.loop-i.cells c.loop-i.i _ (omega arith) (omega arith) c.loop-i.invariant c.in-Some.split;
 }
 

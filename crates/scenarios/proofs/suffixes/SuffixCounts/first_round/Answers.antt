@@ -7,7 +7,7 @@ use Rattle.scenarios.specs.Turns.{round}
 use Rattle.scenarios.specs.Fits.{Among}
 use Rattle.scenarios.specs.Scenarios.{count}
 use Rattle.scenarios.specs.Counting.{layer}
-use Rattle.scenarios.specs.Edges.{Walking, cells_at, turn_at, edge_of, left_of}
+use Rattle.scenarios.specs.Edges.{cells_at, turn_at, edge_of, left_of}
 use Rattle.scenarios.proofs.Onward.{left_begun, left_moved}
 use Rattle.scenarios.proofs.Locating.{Seeking, seek_start}
 use Rattle.scenarios.proofs.Stepping.{AtEdge, at_edge, edge_among, edge_layered, step_from}
@@ -15,11 +15,11 @@ use Rattle.scenarios.proofs.suffixes.SuffixCounts.first_round.Goals as goal
 
 -- what holds at an edge of the walk, by the counts
 standing : (k : SuffixCounts) (d s rank left v : ℕ) (e : Edges) (x : TransitionEdge) → d < k.rounds → Among (layer k.participants.number d) s
-    → Walking e × (cells_at e ≡ cells k.participants.number s) × Seeking (k.rounds - (d + 1)) (cells k.participants.number s) rank (left_of e) left
+    → (cells_at e ≡ cells k.participants.number s) × Seeking (k.rounds - (d + 1)) (cells k.participants.number s) rank (left_of e) left
     → x ≡ edge_of (turn_at e) → v ≡ count (k.rounds - (d + 1)) (cells k.participants.number x.next.boundaries)
     → AtEdge k.participants.number k.rounds d s rank left v e x
 standing k d s rank left v e x l lay i is v_is =
-    at_edge k.participants.number k.rounds d s rank left v k.participants.within.0 l lay e i.0 i.1 i.2 x is (λ _. v_is) k.fits
+    at_edge k.participants.number k.rounds d s rank left v k.participants.within.0 l lay e i.0 i.1 x is (λ _. v_is) k.fits
 
 pub loop-left-init : goal.loop-left-init
 loop-left-init c =
@@ -32,14 +32,14 @@ loop-left-init c =
     let one : k.rounds - c.args.place.depth ≡ suc r = omega arith in
     let start = seek_start r (cells n s) c.args.rank (subst (λ j. c.args.rank < count j (cells n s)) one c.requires.below) in
     let same = left_begun n (cells n s) c.of-edges.result b in
-    (b.walking, b.at, subst (λ ts. Seeking r (cells n s) c.args.rank ts c.args.rank) (sym same) start)
+    (b.at, subst (λ ts. Seeking r (cells n s) c.args.rank ts c.args.rank) (sym same) start)
 
 pub continuations-suffix-requires-clause-reached : goal.continuations-suffix-requires-clause-reached
 continuations-suffix-requires-clause-reached c =
     let k = c.args.self.now in
     let i = c.loop-left.invariant in
     edge_layered k.participants.number k.rounds c.args.place.depth c.args.place.state.boundaries c.args.rank c.loop-left.left 0 k.participants.within.0 c.requires.within c.requires.reached
-    c.loop-left.edges i.0 i.1 i.2 c.edge-edge.result c.edge-edge.ensures
+    c.loop-left.edges i.0 i.1 c.edge-edge.result c.edge-edge.ensures
 
 pub overflow_cast-size : goal.overflow_cast-size
 overflow_cast-size c =
@@ -70,7 +70,7 @@ returns-then-left-size c =
     standing c.args.self.now c.args.place.depth c.args.place.state.boundaries c.args.rank c.loop-left.left c.continuations-suffix.result c.loop-left.edges c.edge-edge.result
     c.requires.within c.requires.reached c.loop-left.invariant c.edge-edge.ensures c.continuations-suffix.ensures in
     step_from n k.rounds d s h c.requires.within c.requires.reached (turn_at e)
-    (edge_among n k.rounds d s c.args.rank c.loop-left.left 0 h c.requires.within c.requires.reached e i.0 i.1 i.2)
+    (edge_among n k.rounds d s c.args.rank c.loop-left.left 0 h c.requires.within c.requires.reached e i.0 i.1)
     c.args.rank c.loop-left.left c.continuations-suffix.result _ (at.found c.if-left-size.true) at.suffix (c.round_at.ensures ∙ ap (round (turn_at e)) c.from.ensures) at.next_is refl
 
 pub unreachable-requires : goal.unreachable-requires
@@ -82,7 +82,7 @@ unreachable-requires c =
 
 pub loop-left-smaller : goal.loop-left-smaller
 loop-left-smaller c =
-    let q = ap length (left_moved c.loop-left.edges c.advance.new.self c.loop-left.invariant.0 c.if-not-advance.ensures) in
+    let q = ap length (left_moved c.loop-left.edges c.advance.new.self c.if-not-advance.ensures) in
     omega arith
 
 pub loop-left-preserved : goal.loop-left-preserved
@@ -91,4 +91,4 @@ loop-left-preserved c =
     let at =
     standing c.args.self.now c.args.place.depth c.args.place.state.boundaries c.args.rank c.loop-left.left c.continuations-suffix.result c.loop-left.edges c.edge-edge.result
     c.requires.within c.requires.reached c.loop-left.invariant c.edge-edge.ensures c.continuations-suffix.ensures in
-    (m.walking, m.at ∙ c.loop-left.invariant.1, at.passed c.advance.new.self m c.if-left-size.false)
+    (m.at ∙ c.loop-left.invariant.0, at.passed c.advance.new.self m c.if-left-size.false)

@@ -7,7 +7,7 @@ use Rattle.scenarios.specs.Cells.{cells}
 use Rattle.scenarios.specs.Fits.{Among}
 use Rattle.scenarios.specs.Scenarios.{count}
 use Rattle.scenarios.specs.Counting.{layer}
-use Rattle.scenarios.specs.Edges.{Walking, turn_at, edge_of}
+use Rattle.scenarios.specs.Edges.{turn_at, edge_of}
 use Rattle.scenarios.proofs.Onward.{left_moved}
 use Rattle.scenarios.proofs.Passing.{Passing, Here, pass_start, edge_reached, stand_here, number_fits, pass_found, pass_on, pass_never}
 use Rattle.scenarios.proofs.suffixes.SuffixCounts.rank_before.Goals as goal
@@ -19,20 +19,20 @@ not_both (inr h) a b = h a
 
 -- what holds at an edge of the walk, by the counts
 standing : (k : SuffixCounts) (d s v w : ℕ) (x : RoundRank) (e : Edges) (y : TransitionEdge) → d < k.rounds → Among (layer k.participants.number d) s
-    → Walking e × Passing (k.rounds - (d + 1)) k.participants.number s x e v
+    → Passing (k.rounds - (d + 1)) k.participants.number s x e v
     → y ≡ edge_of (turn_at e) → w ≡ count (k.rounds - (d + 1)) (cells k.participants.number y.next.boundaries)
     → Here (k.rounds - (d + 1)) k.participants.number s x e v y w
-standing k d s v w x e y l lay i is w_is = stand_here k.rounds d k.participants.within.0 i.1 is lay l k.fits (λ _. w_is)
+standing k d s v w x e y l lay i is w_is = stand_here k.rounds d k.participants.within.0 i is lay l k.fits (λ _. w_is)
 
 pub loop-place-init : goal.loop-place-init
 loop-place-init c =
     let k = c.args.self.now in
     let b = c.of-edges.ensures in
-    (b.walking, pass_start (k.rounds - (c.args.place.depth + 1)) k.participants.number c.args.place.state.boundaries c.args.read c.of-edges.result k.participants.within.0 b)
+    pass_start (k.rounds - (c.args.place.depth + 1)) k.participants.number c.args.place.state.boundaries c.args.read c.of-edges.result k.participants.within.0 b
 
 pub continuations-ways-requires-clause-reached : goal.continuations-ways-requires-clause-reached
 continuations-ways-requires-clause-reached c =
-    edge_reached c.args.self.now.rounds c.args.place.depth c.args.self.now.participants.within.0 c.loop-place.invariant.1 c.edge-edge.ensures c.requires.reached
+    edge_reached c.args.self.now.rounds c.args.place.depth c.args.self.now.participants.within.0 c.loop-place.invariant c.edge-edge.ensures c.requires.reached
 
 pub overflow_cast-result : goal.overflow_cast-result
 overflow_cast-result c =
@@ -94,12 +94,10 @@ unreachable-requires c =
 
 pub loop-place-smaller : goal.loop-place-smaller
 loop-place-smaller c =
-    let l = ap length (left_moved c.loop-place.edges c.advance.new.self c.loop-place.invariant.0 c.if-not-advance.ensures) in
+    let l = ap length (left_moved c.loop-place.edges c.advance.new.self c.if-not-advance.ensures) in
     omega arith
 
 pub loop-place-preserved : goal.loop-place-preserved
-loop-place-preserved c = (
-  c.if-not-advance.ensures.walking,
-  pass_on c.args.self.now.participants.within.0 (standing c.args.self.now c.args.place.depth c.args.place.state.boundaries c.loop-place.before c.continuations-ways.result c.args.read c.loop-place.edges c.edge-edge.result
-      c.requires.within c.requires.reached c.loop-place.invariant c.edge-edge.ensures c.continuations-ways.ensures) (not_both c.else-edge-read.either) c.advance.new.self c.if-not-advance.ensures,
-)
+loop-place-preserved c =
+    pass_on c.args.self.now.participants.within.0 (standing c.args.self.now c.args.place.depth c.args.place.state.boundaries c.loop-place.before c.continuations-ways.result c.args.read c.loop-place.edges c.edge-edge.result
+    c.requires.within c.requires.reached c.loop-place.invariant c.edge-edge.ensures c.continuations-ways.ensures) (not_both c.else-edge-read.either) c.advance.new.self c.if-not-advance.ensures

@@ -1,10 +1,10 @@
 use Rattle.std.proofs.Common.{◌+◌, ◌-◌, length}
-use Rattle.scenarios.specs.Edges.{Walking, left_of}
+use Rattle.scenarios.specs.Edges.{left_of}
 use Rattle.scenarios.proofs.Passing.{Passing}
 use Rattle.scenarios.proofs.suffixes.SuffixCounts.rank_before.Given as goal
 
 abbrev pub invariant-loop-place : goal.invariant-loop-place
-invariant-loop-place l = Walking l.edges × Passing (l.self.rounds - (l.place.depth + 1)) l.self.participants.number l.fn.place.state.boundaries l.read l.edges l.before
+invariant-loop-place l = Passing (l.self.rounds - (l.place.depth + 1)) l.self.participants.number l.fn.place.state.boundaries l.read l.edges l.before
 
 abbrev pub decreases-loop-place : goal.decreases-loop-place
 decreases-loop-place l = length (left_of l.edges)
