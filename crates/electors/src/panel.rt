@@ -14,7 +14,8 @@ pub(crate) struct Panel {
 }
 
 impl Panel {
-    // From 2 to 64 participants in terms of at least 1 view; else the first rule broken.
+    // From 2 to 64 participants in terms of at least 1 view; else the first rule broken. Scenarios test the same bounds, and the two
+    // crates share only the refusals.
     pub(crate) fn new(participants: usize, term: u32) -> Result<Panel, Refusal>
         ensures { MadeOf participants term (λ p. p.count) (λ p. p.term.length) result }
     {

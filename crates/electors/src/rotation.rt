@@ -7,7 +7,8 @@ use crate::panel::Panel;
 use refusals::Refusal;
 use terms::TermLength;
 
-// The participants take turns, a term each.
+// The participants take turns, a term each. Turns and lots are types of their own, since each has its own input; what they share
+// is the panel's.
 #[derive(Clone, Copy)]
 pub struct Rotation {
     panel: Panel,

@@ -30,7 +30,7 @@ impl CellState {
         mask_contains(self.boundaries, idx)
     }
 
-    // The cells of so many participants as (start, len) ranges.
+    // The cells of so many participants as (start, len) ranges. The bounds are a plan's first two rules, asked for alone.
     pub fn cell_ranges(self, participants: usize) -> Result<ArrayVec<(usize, usize), 64>, Refusal>
         ensures { RangesTold participants self.boundaries result }
     {

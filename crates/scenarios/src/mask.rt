@@ -9,7 +9,8 @@ pub fn mask_contains(mask: u64, idx: usize) -> bool
     idx < 64 && (mask >> idx) & 1 == 1
 }
 
-// The mask with every bit of `[start, start + len)` set too, where it has none from `start` on.
+// The mask with every bit of `[start, start + len)` set too, where it has none from `start` on. That the range is within 64 bits each
+// caller has from its own cell, so no type says it.
 pub(crate) fn set_mask_range(mask: u64, start: usize, len: usize) -> u64
     requires below { mask < 2 ^ start }
     requires within { start + len ≤ 64 }

@@ -53,6 +53,7 @@ fn campaign_cells(
 ) -> Result<ArrayVec<(usize, usize), 64>, Refusal>
     ensures { elim result [ Ok c ↦ (faults_fault participants faults ≡ None) × (c.items ≡ ranges_from 0 (cells participants state.boundaries)) × (length c.items ≤ participants) | Err e ↦ faults_fault participants faults ≡ Some (number_of e) ] }
 {
+    // A plan tests faults in its own order of rules, so the two tests stand here again.
     let told = state.cell_ranges(participants)?;
     if faults == 0 {
         return Err(Refusal::NoFaults);
@@ -82,7 +83,8 @@ fn with_cell(rest: &[u64; 64], len: usize) -> [u64; 64]
     array::from_fn(|faults| ways_of(rest, len, faults))
 }
 
-// How many sets of so many faults there are with a cell of `len` before those that have `rest`.
+// How many sets of so many faults there are with a cell of `len` before those that have `rest`. That faults are below 64 is all that is
+// asked of them here and below, since participants are at most 64.
 fn ways_of(rest: &[u64; 64], len: usize, faults: usize) -> u64
     requires few { faults < 64 }
     requires fits { ways.with_one_more rest.now len faults < 2 ^ 64 }
