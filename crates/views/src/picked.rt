@@ -26,14 +26,13 @@ fn fill<N: Copy>(
 {
     let mut p: usize = 0;
     let mut s: usize = 0;
-    // By index, since both masks are asked about each place.
-    for i in 0..names.len() {
+    for (i, &name) in names.iter().enumerate() {
         if mask_contains(round.primary, i) {
-            primary[p] = names[i];
+            primary[p] = name;
             p += 1;
         }
         if mask_contains(round.secondary, i) {
-            secondary[s] = names[i];
+            secondary[s] = name;
             s += 1;
         }
     }
