@@ -58,7 +58,7 @@ pub enum Refusal {
 }
 
 impl Refusal {
-    // The number of the cause, from 1 in the order of the list above.
+    // The number of the cause, from 1 in the order of the list above. Users meet refusals by their numbers, so each is written out.
     pub fn number(&self) -> u8
         ensures { result ≡ refusals.number_of self.now }
     {

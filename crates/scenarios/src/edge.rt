@@ -28,7 +28,8 @@ pub(crate) struct SplitCell {
     pub(crate) split: LocalRefinement,
 }
 
-// A walk over the edges of a state.
+// A walk over the edges of a state. It stands at an edge until it is moved on, and a caller draws rounds from it there; an iterator
+// would have left the edge that it gives.
 #[derive(Drop)]
 pub(crate) struct Edges {
     pub(crate) participants: Participants,
@@ -110,7 +111,7 @@ impl Edges {
         }
     }
 
-    // Moves on to the next edge; false at the last.
+    // Moves on to the next edge; false at the last. There is nothing to answer but that.
     pub(crate) fn advance(&mut self) -> bool
         ensures { Advanced self.old result self.new }
     {

@@ -3,7 +3,8 @@ ghost use Rattle.std.specs.Prelude.{◌≤◌};
 
 use crate::role::role_subset_count;
 
-// The sizes of the parts of a cell, the first `len` of them. Five sizes cost less to pass by value than to lend.
+// The sizes of the parts of a cell, the first `len` of them. Five sizes cost less to pass by value than to lend, and an
+// `ArrayVec` is not `Copy`. Whether the leader is in the cell is the walk's to say, so it is handed in at each call.
 #[derive(Clone, Copy, PartialEq, Eq, Debug)]
 pub(crate) struct LocalRefinement {
     pub(crate) parts: [usize; 5],

@@ -73,7 +73,8 @@ fn kth_mask(len: usize, rank: u64) -> Option<u8>
         .nth(rank as usize)
 }
 
-// The roles of a choice, in role order from the first place on. Four roles are passed by value.
+// The roles of a choice, in role order from the first place on. Four roles are passed by value; a list of so few would have to be
+// pushed to and taken apart again.
 fn roles_of(mask: u8) -> [Role; 4]
     ensures { letters (take (length (roles_in mask)) result) ≡ roles_in mask }
 {

@@ -53,7 +53,7 @@ fn campaign_cells(
 ) -> Result<ArrayVec<(usize, usize), 64>, Refusal>
     ensures { elim result [ Ok c ↦ (faults_fault participants faults ≡ None) × (c.items ≡ ranges_from 0 (cells participants state.boundaries)) × (length c.items ≤ participants) | Err e ↦ faults_fault participants faults ≡ Some (number_of e) ] }
 {
-    // A plan tests faults in its own order of rules, so the two tests stand here again.
+    // A plan tests faults by the same two rules between its others. No plan is at hand here, and two rules need no function of their own.
     let told = state.cell_ranges(participants)?;
     if faults == 0 {
         return Err(Refusal::NoFaults);

@@ -75,7 +75,7 @@ fn mode_in(bytes: &[u8]) -> Option<Mode>
     }
 }
 
-// The field at `from` as `read` reads it, and the place after its end.
+// The field at `from` as `read` reads it, and the place after its end. The text is handed on whole, since a refusal says the place in it.
 fn read_field<T, F: Fn(&[u8]) -> Option<T>>(
     text: &[u8],
     from: usize,

@@ -233,7 +233,7 @@ mod tests {
         assert_eq!(rt; target, Some(SplitTarget::Primary));
     }
 
-    // A script over an elector of 4 participants by turns has to be refused with this number.
+    // A script over an elector of 4 participants by turns has to be refused with this number, which is what users are told.
     // What comes back has to be empty, and to have the leaders of the elector below.
     fn check_script_refused(rt: &impl Abort, leaders: &[usize], number: u8) -> Result<(), Fail> {
         let below = Rotation::new(4, 5)?;

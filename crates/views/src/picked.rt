@@ -39,7 +39,8 @@ fn fill<N: Copy>(
     (p, s)
 }
 
-// Writes the groups of a round, unless one of the memories is too short.
+// Writes the groups of a round, unless one of the memories is too short. Groups of a round are picked name by name;
+// all others are copied whole, so only the test of room is the same.
 pub(crate) fn put_picked<N: Copy>(
     round: RoundScenario,
     names: &[N],

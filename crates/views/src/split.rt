@@ -10,7 +10,8 @@ use crate::target::SplitTarget;
 use refusals::Refusal;
 use terms::TermLength;
 
-// Where the names are cut at a view, unless the term length or the list of names is refused.
+// Where the names are cut at a view, unless the term length or the list of names is refused. A script refuses for its rounds first
+// and takes an empty list, so the two tests that both make stand in each.
 fn cut_of<N>(view: u64, term: u32, names: &[N]) -> Result<usize, Refusal>
     ensures { memories.UnlessFault (splits.split_fault term names.now) (λ cut. cut ≡ splits.cut_at term view names.now) result }
 {
