@@ -1,4 +1,5 @@
 // Campaigns: the cases of a counted plan, drawn up from words.
+// Rank and ticket memory are handed in one by one, since the caller keeps the one and lends the other to the campaign.
 
 #![tactic(auto)]
 

@@ -1,4 +1,5 @@
 // Compromised sets: how many take a first few members of each residual cell, and the set of a number.
+// Calls take participants, faults and a state one by one and refuse what breaks a rule; a type for them would ask more of callers.
 
 #![tactic(auto)]
 

@@ -1,4 +1,5 @@
 // What each half hears at a view, and where a message goes.
+// Calls take memories and a raw term length one by one and refuse what breaks a rule; a type for them would ask more of callers.
 
 #![tactic(auto)]
 
