@@ -37,6 +37,7 @@ pub use plan::{Plan, PlanNumbers};
 pub use round::RoundScenario;
 
 // Worked numbers, of the definitions that the other contracts cite.
+// A theorem has nothing to answer, so this function and those below answer 0.
 pub fn worked_stand() -> u8
     ensures worked_totals { WorkedTotals }
     ensures worked_ranks { WorkedRanks }

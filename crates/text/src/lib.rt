@@ -113,6 +113,7 @@ pub fn read_plan_line(text: &[u8]) -> Result<PlanLine, Refusal>
 }
 
 // That a text is at most one line, and is one just where no fault is found; and that a number is read just where it is written so.
+// A theorem has nothing to answer, so this function and those below answer 0.
 pub fn lines_stand() -> u8
     ensures lines_stand { lines.LinesStand }
     ensures answer { result ≡ 0 }
