@@ -126,9 +126,7 @@ fn discover(participants: Participants, rounds: usize, slots: &mut [Slot]) -> Op
 fn add_product(total: u64, weight: u128, value: u64) -> Option<u64>
     ensures { 0 < value → slot.FitsAs (total + weight * value) result }
 {
-    let Ok(weight) = u64::try_from(weight) else {
-        return None;
-    };
+    let weight = u64::try_from(weight).ok()?;
     total.checked_add(weight.checked_mul(value)?)
 }
 
