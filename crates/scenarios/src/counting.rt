@@ -191,13 +191,9 @@ fn count_through(
 ) -> Result<u64, Refusal>
     ensures { elim result [ Ok v ↦ counts.CountedAs participants.number rounds slots.old v slots.new | Err e ↦ counts.Cause participants.number rounds slots.old e ] }
 {
-    let Some(len) = discover(participants, rounds, slots) else {
-        return Err(Refusal::CountMemory);
-    };
-    match settle(participants, rounds, slots, len) {
-        Some(()) => Ok(first_value(slots)),
-        None => Err(Refusal::TotalTooLarge),
-    }
+    let len = discover(participants, rounds, slots).ok_or(Refusal::CountMemory)?;
+    settle(participants, rounds, slots, len).ok_or(Refusal::TotalTooLarge)?;
+    Ok(first_value(slots))
 }
 
 // Counts the scenarios of so many rounds, and leaves in the slots the count of each place that rounds can lead to.
