@@ -114,9 +114,9 @@ fn discover(participants: Participants, rounds: usize, slots: &mut [Slot]) -> Op
 {
     let mut from = 0;
     let mut len = note_place(slots, 0, ZERO.key)?;
-    for d in 0..rounds {
+    for depth in 1..=rounds {
         let end = len;
-        len = note_layer(participants, d + 1, slots, from, end)?;
+        len = note_layer(participants, depth, slots, from, end)?;
         from = end;
     }
     Some(len)
