@@ -75,10 +75,10 @@ places_within n d e h =
     let q = ap (λ m. length (places_before n m)) (let z : d + (e - d) ≡ e = omega arith in z) in
     omega arith
 
--- one depth is done
-pub discover_turn : (n d from : ℕ) (xs zs : List Slot) (r : Option ℕ) → from ≡ length (places_before n d)
-    → Kept (noted same_place (places_before n (suc d)) (flat_map (afters n (d + 1)) (drop from (places_before n (suc d))))) xs r zs → Kept (places_before n (suc (d + 1))) xs r zs
-discover_turn n d from xs zs r e k =
-    let o : d + 1 ≡ suc d = omega arith in
-    subst (λ t. Kept t xs r zs)
-    ((λ i. noted same_place (places_before n (suc d)) (flat_map (afters n (o i)) (drop (e i) (places_before n (suc d))))) ∙ level_next n d ∙ ap (λ m. places_before n (suc m)) (sym o)) k
+-- the depth m is done, which comes after d
+pub depth_turn : (n d m from : ℕ) (xs zs : List Slot) (r : Option ℕ) → suc d ≡ m → from ≡ length (places_before n d)
+    → Kept (noted same_place (places_before n m) (flat_map (afters n m) (drop from (places_before n m)))) xs r zs → Kept (places_before n (m + 1)) xs r zs
+depth_turn n d m from xs zs r e f k =
+    let p = subst (λ i. noted same_place (places_before n i) (flat_map (afters n i) (drop (length (places_before n d)) (places_before n i))) ≡ places_before n (suc i)) e (level_next n d) in
+    let o : suc m ≡ m + 1 = omega arith in
+    subst (λ t. Kept t xs r zs) (ap (λ j. noted same_place (places_before n m) (flat_map (afters n m) (drop j (places_before n m)))) f ∙ p ∙ ap (places_before n) o) k

@@ -114,9 +114,9 @@ fn discover(participants: Participants, rounds: usize, slots: &mut [Slot]) -> Op
 {
     let mut from = 0;
     let mut len = note_place(slots, 0, ZERO.key)?;
-    for d in 0..rounds {
+    for depth in 1..=rounds {
         let end = len;
-        len = note_layer(participants, d + 1, slots, from, end)?;
+        len = note_layer(participants, depth, slots, from, end)?;
         from = end;
     }
     Some(len)
@@ -126,9 +126,7 @@ fn discover(participants: Participants, rounds: usize, slots: &mut [Slot]) -> Op
 fn add_product(total: u64, weight: u128, value: u64) -> Option<u64>
     ensures { 0 < value → slot.FitsAs (total + weight * value) result }
 {
-    let Ok(weight) = u64::try_from(weight) else {
-        return None;
-    };
+    let weight = u64::try_from(weight).ok()?;
     total.checked_add(weight.checked_mul(value)?)
 }
 
@@ -193,13 +191,9 @@ fn count_through(
 ) -> Result<u64, Refusal>
     ensures { elim result [ Ok v ↦ counts.CountedAs participants.number rounds slots.old v slots.new | Err e ↦ counts.Cause participants.number rounds slots.old e ] }
 {
-    let Some(len) = discover(participants, rounds, slots) else {
-        return Err(Refusal::CountMemory);
-    };
-    match settle(participants, rounds, slots, len) {
-        Some(()) => Ok(first_value(slots)),
-        None => Err(Refusal::TotalTooLarge),
-    }
+    let len = discover(participants, rounds, slots).ok_or(Refusal::CountMemory)?;
+    settle(participants, rounds, slots, len).ok_or(Refusal::TotalTooLarge)?;
+    Ok(first_value(slots))
 }
 
 // Counts the scenarios of so many rounds, and leaves in the slots the count of each place that rounds can lead to.

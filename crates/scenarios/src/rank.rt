@@ -29,7 +29,7 @@ impl SuffixCounts<'_> {
                 depth: place.depth + 1,
                 state: edge.next,
             });
-            if edge.leader == read.leader_cell && edge.next.boundaries == read.next.boundaries {
+            if edge.leader == read.leader_cell && edge.next == read.next {
                 return before + read.rank as u64 * ways;
             }
             before += edge.multiplicity as u64 * ways;
