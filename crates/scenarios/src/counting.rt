@@ -107,8 +107,8 @@ fn note_layer(
     Some(used)
 }
 
-// Notes all places that rounds can lead to, depth by depth. Participants and rounds are all that this and the next functions have in
-// common, and a plan holds both, so they have no type of their own.
+// Notes all places that rounds can lead to, depth by depth. Participants and rounds go together through this and the next functions,
+// but no fact holds of the two, so a type would only be taken apart in each.
 fn discover(participants: Participants, rounds: usize, slots: &mut [Slot]) -> Option<usize>
     ensures { slot.Kept (counts.places participants.number rounds) slots.old result slots.new }
 {
