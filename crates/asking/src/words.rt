@@ -12,10 +12,8 @@ where
     T::Err: Drop,
     ensures { told.Reads T.from_str_gives words.old words.new result }
 {
-    match words.next() {
-        Some(word) => word.parse::<T>().map_err(|_| Unasked::Form),
-        None => Err(Unasked::Form),
-    }
+    let word = words.next().ok_or(Unasked::Form)?;
+    word.parse::<T>().map_err(|_| Unasked::Form)
 }
 
 // The values that the next words write, up to a word that writes none, and that word; it is missing where the line ends before.

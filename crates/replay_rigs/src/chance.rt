@@ -30,6 +30,11 @@ fn read_origin(words: &mut SplitWhitespace<'_>, heap: Global) -> Result<Origin, 
     }
 }
 
+// Whether the words are spent, and the line says so.
+fn is_spent(refusal: Refusal, words: &mut SplitWhitespace<'_>) -> bool {
+    words.next() == Some("spent") && refusal == Refusal::WordsSpent
+}
+
 // A sample that is refused has to leave zeros; so the slots do not hold zeros before, but what is no rank.
 pub(crate) fn sample_agrees(
     words: &mut SplitWhitespace<'_>,
@@ -58,11 +63,7 @@ pub(crate) fn sample_agrees(
                 .collect(heap)?;
             are_next(words, &drawn)
         }
-        Err(refusal) => Ok(
-            words.next() == Some("spent")
-                && refusal == Refusal::WordsSpent
-                && ranks.iter().all(|slot| slot.key == 0),
-        ),
+        Err(refusal) => Ok(is_spent(refusal, words) && ranks.iter().all(|slot| slot.key == 0)),
     }
 }
 
@@ -82,7 +83,7 @@ pub(crate) fn shuffle_agrees(
     };
     match answer {
         Ok(()) => are_next(words, &items),
-        Err(refusal) => Ok(words.next() == Some("spent") && refusal == Refusal::WordsSpent),
+        Err(refusal) => Ok(is_spent(refusal, words)),
     }
 }
 

@@ -7,14 +7,12 @@ use std::str::SplitWhitespace;
 
 // The leaders of a script.
 fn script_of(word: &str, heap: Global) -> Result<Vec<usize>, Unasked> {
-    let mut leaders = Vec::new(heap);
     if word == "-" {
-        return Ok(leaders);
+        return Ok(Vec::new(heap));
     }
-    for leader in word.split(',') {
-        leaders.push(leader.parse::<usize>().map_err(|_| Unasked::Form)?)?;
-    }
-    Ok(leaders)
+    word.split(',')
+        .map(|leader| leader.parse::<usize>().map_err(|_| Unasked::Form))
+        .try_collect(heap)
 }
 
 // A pile of scripts, the outermost first.

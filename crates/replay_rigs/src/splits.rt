@@ -40,12 +40,13 @@ fn read_names(words: &mut SplitWhitespace<'_>, heap: Global) -> Result<Vec<u16>,
 }
 
 fn read_groups(words: &mut SplitWhitespace<'_>, heap: Global) -> Result<Groups, Unasked> {
+    if words.clone()?.next() == Some("panic") {
+        words.next();
+        return Ok(None);
+    }
+    let first = read_names(words, heap)?;
     match read_while::<u16>(words, heap)? {
-        (none, Some("panic")) if none.is_empty() => Ok(None),
-        (first, Some("|")) => match read_while::<u16>(words, heap)? {
-            (second, None) => Ok(Some((first, second))),
-            _ => Err(Unasked::Form),
-        },
+        (second, None) => Ok(Some((first, second))),
         _ => Err(Unasked::Form),
     }
 }
