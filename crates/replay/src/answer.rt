@@ -9,6 +9,7 @@ use std::alloc::Global;
 use std::str::SplitWhitespace;
 
 // A plan by its participants, rounds and mode. Faults and cap have no part in what is asked, so any that are allowed do.
+// A mode is a letter here as in a plan line, whose reader the stored answers do not use.
 fn read_plan(words: &mut SplitWhitespace<'_>) -> Result<Plan, Unasked> {
     let participants = read::<usize>(words)?;
     let rounds = read::<usize>(words)?;
@@ -20,6 +21,7 @@ fn read_plan(words: &mut SplitWhitespace<'_>) -> Result<Plan, Unasked> {
     Ok(Plan::new(participants, 1, rounds, mode, 1)?)
 }
 
+// A closure for `map_err` would be handed lent memory, which is not checked yet, so this is a match.
 fn count(plan: Plan, memory: &mut [Slot]) -> Result<CountedPlan<'_>, Unasked> {
     match plan.count(memory) {
         Ok(counted) => Ok(counted),

@@ -10,7 +10,8 @@ use words::{Source, SplitMix64, Tape};
 // The longest list that is shuffled.
 const ITEMS: u64 = 256;
 
-// Where a question's words come from. The two sources differ in type, so each is handed on in an arm of its own.
+// Where a question's words come from. The two sources differ in type, so each is handed on in an arm of its own; a source
+// over both would match at every word.
 #[derive(Drop)]
 enum Origin {
     Tape(Vec<u64>),

@@ -5,7 +5,7 @@ use refusals::Refusal;
 use std::alloc::Global;
 use std::str::SplitWhitespace;
 
-// The leaders of a script.
+// The leaders of a script. One that is no number breaks the form, whatever its fault.
 fn script_of(word: &str, heap: Global) -> Result<Vec<usize>, Unasked> {
     if word == "-" {
         return Ok(Vec::new(heap));

@@ -108,6 +108,7 @@ impl Split<'_> {
     }
 }
 
+// The word that stored answers have for it; it is compared, and printed nowhere.
 fn word_of(target: SplitTarget) -> &'static str {
     match target {
         SplitTarget::None => "None",
