@@ -28,32 +28,6 @@ pub struct OpenRefused<'a> {
     pub tickets: &'a mut [Ticket],
 }
 
-// Makes all of rank and ticket memory zero. Where rank memory is too short all stays as it was, so each refusal says for itself
-// whether it clears.
-fn clear(ranks: &mut [RankSlot], tickets: &mut [Ticket])
-    ensures { openings.Cleared ranks.old tickets.old ranks.new tickets.new }
-{
-    ranks.fill(Entry { key: 0, value: () });
-    tickets.fill(Ticket { rank: 0, set: 0 });
-}
-
-// How many tickets are listed; if they did not all fit, rank and ticket memory is made zero.
-fn fitting(
-    at: Option<usize>,
-    ranks: &mut [RankSlot],
-    tickets: &mut [Ticket],
-) -> Result<usize, Refusal>
-    ensures { listings.Fitting at ranks.old tickets.old result ranks.new tickets.new }
-{
-    match at {
-        Some(len) => Ok(len),
-        None => {
-            clear(ranks, tickets);
-            Err(Refusal::TicketMemory)
-        }
-    }
-}
-
 // Chooses ranks, all of them or as many as the cap, and lists a ticket for each of their sets; answers how many.
 fn list_chosen<S: Source>(
     counted: &CountedPlan<'_>,
@@ -61,32 +35,38 @@ fn list_chosen<S: Source>(
     ranks: &mut [RankSlot],
     tickets: &mut [Ticket],
 ) -> Result<usize, Refusal>
-    ensures within { listings.ToldWithin result tickets.new }
-    ensures told { listings.ChoiceTold counted.now.plan (S.coming source.old) ranks.old tickets.old result (S.coming source.new) ranks.new tickets.new }
+    requires { listings.RankRoom counted.now.plan ranks.old }
+    ensures { listings.ChoiceTold counted.now.plan (S.coming source.old) ranks.old tickets.old result (S.coming source.new) ranks.new tickets.new }
 {
     let total = counted.total();
     let cap = counted.numbers().cap;
     if total <= cap {
-        return fitting(list_ranks(counted, 0..total, tickets), ranks, tickets);
+        return list_ranks(counted, 0..total, tickets).ok_or(Refusal::TicketMemory);
     }
-    // with room for the sample, it is refused for want of words alone
-    if (ranks.len() as u64) < cap {
-        return Err(Refusal::RankMemory);
-    }
-    match sample_unique_indices(source, total, cap, ranks) {
-        Ok(many) => {
-            let chosen = ranks[0..many as usize].iter().map(|slot| slot.key);
-            let at = list_ranks(counted, chosen, tickets);
-            fitting(at, ranks, tickets)
-        }
-        Err(refusal) => {
-            clear(ranks, tickets);
-            Err(refusal)
-        }
-    }
+    let many = sample_unique_indices(source, total, cap, ranks)?;
+    let chosen = ranks[..many as usize].iter().map(|slot| slot.key);
+    list_ranks(counted, chosen, tickets).ok_or(Refusal::TicketMemory)
 }
 
-// Lists the tickets, shuffles them, and answers how many are cases: no more than the cap.
+// Lists the tickets, shuffles them, and answers how many are cases, no more than the cap: as far as words and ticket memory suffice.
+fn open_through<S: Source>(
+    counted: &CountedPlan<'_>,
+    source: &mut S,
+    ranks: &mut [RankSlot],
+    tickets: &mut [Ticket],
+) -> Result<usize, Refusal>
+    requires { listings.RankRoom counted.now.plan ranks.old }
+    ensures { elim result [
+      | Ok cases ↦ openings.OpenedAs counted.now.plan (S.coming source.old) ranks.old tickets.old cases (S.coming source.new) ranks.new tickets.new
+      | Err e ↦ listings.Cause counted.now.plan (S.coming source.old) tickets.old (number_of e) (S.coming source.new)
+    ] }
+{
+    let len = list_chosen(counted, source, ranks, tickets)?;
+    shuffle_items(&mut tickets[..len], source)?;
+    Ok(counted.numbers().cap.min(len as u64) as usize)
+}
+
+// The same; where that is refused, rank and ticket memory are all zero, unless rank memory is too short: then all stays as it was.
 fn open_in<S: Source>(
     counted: &CountedPlan<'_>,
     source: &mut S,
@@ -98,14 +78,16 @@ fn open_in<S: Source>(
       | Err e ↦ openings.OpeningRefused counted.now.plan (S.coming source.old) ranks.old tickets.old (number_of e) (S.coming source.new) ranks.new tickets.new
     ] }
 {
-    let len = list_chosen(counted, source, ranks, tickets)?;
-    match shuffle_items(&mut tickets[0..len], source) {
-        Ok(()) => Ok(counted.numbers().cap.min(len as u64) as usize),
-        Err(refusal) => {
-            clear(ranks, tickets);
-            Err(refusal)
-        }
+    let cap = counted.numbers().cap;
+    if counted.total() > cap && (ranks.len() as u64) < cap {
+        return Err(Refusal::RankMemory);
     }
+    let opened = open_through(counted, source, ranks, tickets);
+    if opened.is_err() {
+        ranks.fill(Entry { key: 0, value: () });
+        tickets.fill(Ticket { rank: 0, set: 0 });
+    }
+    opened
 }
 
 // Draws up the cases of a counted plan.
