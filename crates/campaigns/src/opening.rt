@@ -12,7 +12,8 @@ use scenarios::CountedPlan;
 use table::Entry;
 use words::Source;
 
-// What is held for reading, and how many cases are drawn up: the first tickets, so many.
+// What is held for reading, and how many cases are drawn up: the first tickets, so many. The memory is held whole, since what stands
+// behind the cases is promised too.
 #[derive(Drop)]
 pub struct Opened<'a> {
     pub(crate) counted: CountedPlan<'a>,
