@@ -75,7 +75,7 @@ pub(crate) fn edge_agrees(words: &mut SplitWhitespace<'_>) -> Result<bool, Unask
     Ok(edge_is(n, state, place, next, leader, rounds))
 }
 
-// The rounds up to the bar.
+// The rounds up to the bar. The other program reads names so; in `asking` a promise for these lines would be longer than they are.
 fn read_rounds(
     words: &mut SplitWhitespace<'_>,
     heap: Global,

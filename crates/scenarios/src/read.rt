@@ -17,8 +17,8 @@ use crate::refinement::LocalRefinement;
 use crate::role::Role;
 use crate::round::RoundScenario;
 
-// The parts of a cell that have a role, the first `len` of them, and the mask of their roles. It is copied whole, as a refinement
-// is, and becomes one where the leader is put behind.
+// The parts of a cell that have a role, the first `len` of them, and the mask of their roles. They are four at most,
+// and no leader is among them; it becomes a refinement where the leader is put behind. It is copied whole, as that is.
 #[derive(Clone, Copy)]
 struct Reading {
     parts: [usize; 5],
