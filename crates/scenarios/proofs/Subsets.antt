@@ -1,10 +1,10 @@
--- The choices of roles, found by the ones of their masks.
-use Rattle.std.proofs.Common.{◌≡◌, ℕ, zero, suc, ◌+◌, ◌<◌, ◌≤◌, Bool, true, ◌&&◌, cond, eqb, List, [], ◌∷◌, length, get_or, take, Some, None, filter, sym, refl, ap, ◌∙◌, arith}
+-- The choices of roles, and the search for one of them.
+use Rattle.std.proofs.Common.{◌≡◌, ℕ, zero, suc, ◌+◌, ◌-◌, ◌<◌, ◌≤◌, Bool, true, ◌&&◌, eqb, List, [], ◌∷◌, length, get_or, take, Some, None, filter, sym, refl, ap, ◌∙◌, arith}
 use lib.Count.{ones}
 use Rattle.std.specs.List.{range_with_len, slice_get}
 use Rattle.std.proofs.lemmas.List.{length-map, length-take-le}
 use Rattle.std.proofs.ByRecursion.{All-get_or, kept_by_passes}
-use Rattle.std.proofs.lemmas.Bool.{eqb-true, ne_eqb}
+use Rattle.std.proofs.lemmas.Bool.{eqb-true, eq-eqb, ne_eqb, cond-true, cond-false}
 use Rattle.std.proofs.lemmas.Bool.Decides.{Decides-below_and, Decides-eqb}
 use Rattle.scenarios.specs.Masks.{bit}
 use Rattle.scenarios.specs.Turns.{choices, choose, roles_in, subset}
@@ -26,6 +26,10 @@ pub choose_table : (choose 0 ≡ 1) × (choose 1 ≡ 4) × (choose 2 ≡ 6) × (
 unfolding bit roles_in choices choose
 choose_table = (refl, refl, refl, refl, refl)
 
+-- the choices from the mask m on
+abbrev pub choices_from : ℕ → ℕ → List ℕ
+choices_from k m = filter (λ x. eqb (length (roles_in x)) k) (range_with_len m (16 - m))
+
 same_count : ℕ → Bool
 same_count x = eqb (ones x) (length (roles_in x))
 
@@ -34,21 +38,27 @@ tested zero = true
 tested (suc n) = same_count n && tested n
 
 -- the ones of a mask of four bits are its roles
-ones_roles : (m : ℕ) → m < 16 → ones m ≡ length (roles_in m)
+pub ones_roles : (m : ℕ) → m < 16 → ones m ≡ length (roles_in m)
 unfolding ones bit roles_in tested same_count
 ones_roles m h = (Decides-below_and same_count (λ x. ones x ≡ length (roles_in x)) tested (λ x. Decides-eqb (ones x) (length (roles_in x))) refl (λ _. refl) 16).0 refl m h
 
--- from the mask m on
-by_ones : (k n m : ℕ) → m + n ≤ 16 → filter (λ x. eqb (ones x) k) (range_with_len m n) ≡ filter (λ x. eqb (length (roles_in x)) k) (range_with_len m n)
-by_ones k zero m h = refl
-by_ones k (suc n) m h =
-    ap (λ o. cond (eqb o k) (m ∷ filter (λ x. eqb (ones x) k) (range_with_len (m + 1) n)) (filter (λ x. eqb (ones x) k) (range_with_len (m + 1) n))) (ones_roles m (omega arith))
-    ∙ ap (λ xs. cond (eqb (length (roles_in m)) k) (m ∷ xs) xs) (by_ones k n (m + 1) (omega arith))
+counting_from : (m : ℕ) → m < 16 → range_with_len m (16 - m) ≡ m ∷ range_with_len (m + 1) (16 - (m + 1))
+counting_from m h = let e : 16 - m ≡ suc (16 - (m + 1)) = omega arith in ap (range_with_len m) e
 
--- the masks with k ones are the choices of k roles
-pub choices_by_ones : (k : ℕ) → filter (λ x. eqb (ones x) k) (range_with_len 0 16) ≡ choices k
-unfolding choices
-choices_by_ones k = by_ones k 16 0 (omega arith)
+pub choices_here : (k m : ℕ) → m < 16 → length (roles_in m) ≡ k → choices_from k m ≡ m ∷ choices_from k (m + 1)
+choices_here k m h e =
+    ap (filter (λ x. eqb (length (roles_in x)) k)) (counting_from m h) ∙ cond-true (eqb (length (roles_in m)) k) _ _ (eq-eqb (length (roles_in m)) k e)
+
+pub choices_past : (k m : ℕ) → m < 16 → (length (roles_in m) ≡ k → ⊥) → choices_from k m ≡ choices_from k (m + 1)
+choices_past k m h e =
+    ap (filter (λ x. eqb (length (roles_in x)) k)) (counting_from m h) ∙ cond-false (eqb (length (roles_in m)) k) _ _ (ne_eqb (length (roles_in m)) k e)
+
+pub nth_first : (x : ℕ) (xs : List ℕ) → slice_get (x ∷ xs) 0 ≡ Some x
+nth_first x xs = refl
+
+pub nth_next : (x : ℕ) (xs : List ℕ) (k : ℕ) → 0 < k → slice_get (x ∷ xs) k ≡ slice_get xs (k - 1)
+nth_next x xs zero h = absurd (omega arith)
+nth_next x xs (suc k) h = ap (slice_get xs) (let e : k ≡ suc k - 1 = omega arith in e)
 
 -- the mask of a choice has as many roles as are chosen
 

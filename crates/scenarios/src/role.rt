@@ -68,9 +68,21 @@ pub(crate) fn role_subset_count(len: usize) -> u64
 fn kth_mask(len: usize, rank: u64) -> Option<u8>
     ensures { result ≡ slice_get (choices len) rank }
 {
-    (0..16u8)
-        .filter(|mask| mask.count_ones() as usize == len)
-        .nth(rank as usize)
+    let mut mask: u8 = 0;
+    let mut left = rank;
+    // The search passes over masks with another number of ones and stops at the wanted one, so it is written as that.
+    loop {
+        if mask == 16 {
+            break None;
+        }
+        if u64::from(mask.count_ones()) == len as u64 {
+            if left == 0 {
+                break Some(mask);
+            }
+            left -= 1;
+        }
+        mask += 1;
+    }
 }
 
 // The roles of a choice, in role order from the first place on. Four roles are passed by value; a list of so few would have to be
