@@ -26,13 +26,14 @@ fn fill<N: Copy>(
 {
     let mut p: usize = 0;
     let mut s: usize = 0;
-    for (i, &name) in names.iter().enumerate() {
+    // By index, since both masks are asked about each place.
+    for i in 0..names.len() {
         if mask_contains(round.primary, i) {
-            primary[p] = name;
+            primary[p] = names[i];
             p += 1;
         }
         if mask_contains(round.secondary, i) {
-            secondary[s] = name;
+            secondary[s] = names[i];
             s += 1;
         }
     }

@@ -29,15 +29,15 @@ pub loop-i-preserved : goal.loop-i-preserved
 loop-i-preserved g c = (
   elim c.if-mask_contains.branch [
     | then-mask_contains w ↦
-        picked_here c.args.round.primary _ _ _ _ _ c.loop-i-test.true c.loop-i.invariant.0 c.index-names-i.result _ _ (sym c.mask_contains.ensures ∙ w.if-mask_contains.true)
-        c.index-names-i.is c.requires.first w.p-is w.primary-is
+        picked_here c.args.round.primary _ _ _ _ _ c.loop-i-test.true c.loop-i.invariant.0 w.index-names-i.result _ _ (sym c.mask_contains.ensures ∙ w.if-mask_contains.true)
+        w.index-names-i.is c.requires.first w.p-is w.primary-is
     | else-mask_contains w ↦
         passed_here c.args.round.primary _ _ _ _ _ c.loop-i-test.true c.loop-i.invariant.0 _ _ (sym c.mask_contains.ensures ∙ w.if-mask_contains.false) w.p-is w.primary-is
   ],
   elim c.if-mask_contains-2.branch [
     | then-mask_contains-2 w ↦
-        picked_here c.args.round.secondary _ _ _ _ _ c.loop-i-test.true c.loop-i.invariant.1 c.index-names-i.result _ _ (sym c.mask_contains-in-loop-i.ensures ∙ w.if-mask_contains-2.true)
-        c.index-names-i.is c.requires.second w.s-is w.secondary-is
+        picked_here c.args.round.secondary _ _ _ _ _ c.loop-i-test.true c.loop-i.invariant.1 w.index-names-i-then-mask_contains-2.result _ _ (sym c.mask_contains-in-loop-i.ensures ∙ w.if-mask_contains-2.true)
+        w.index-names-i-then-mask_contains-2.is c.requires.second w.s-is w.secondary-is
     | else-mask_contains-2 w ↦
         passed_here c.args.round.secondary _ _ _ _ _ c.loop-i-test.true c.loop-i.invariant.1 _ _ (sym c.mask_contains-in-loop-i.ensures ∙ w.if-mask_contains-2.false) w.s-is w.secondary-is
   ],
