@@ -70,7 +70,8 @@ fn kth_mask(len: usize, rank: u64) -> Option<u8>
 {
     let mut mask: u8 = 0;
     let mut left = rank;
-    // The search passes over masks with another number of ones and stops at the wanted one, so it is written as that.
+    // The search passes over masks with another number of ones and stops at the wanted one. It is written so by a rule of this
+    // repository (docs/DECISIONS.md); `filter` and `nth` would prove too.
     loop {
         if mask == 16 {
             break None;

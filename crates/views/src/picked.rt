@@ -26,7 +26,8 @@ fn fill<N: Copy>(
 {
     let mut p: usize = 0;
     let mut s: usize = 0;
-    // By index, since both masks are asked about each place.
+    // The names are gone through by index, and both masks tested at each, by a rule of this repository (docs/DECISIONS.md);
+    // `enumerate` would prove too.
     for i in 0..names.len() {
         if mask_contains(round.primary, i) {
             primary[p] = names[i];
