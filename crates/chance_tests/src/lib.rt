@@ -10,7 +10,7 @@ mod tests {
     use scenarios::CellState;
     use sets::{count_sets, write_set};
     use table::Entry;
-    use words::{Source, SplitMix64, Tape};
+    use words::{Source, SplitMix64, Tape, draw_up_to};
 
     // The number of the refusal, where there is one: the numbers are part of the product. The tests share no crate for this line.
     fn refused<T: Drop>(answer: Result<T, Refusal>) -> Option<u8> {
@@ -58,6 +58,17 @@ mod tests {
         }
     }
 
+    // Up to the greatest bound each word is itself.
+    #[test]
+    fn numbers_are_drawn(rt: HostRuntime) {
+        let words = [u64::MAX, 0, 7];
+        let mut tape = Tape::new(&words);
+        assert_eq!(rt; draw_up_to(&mut tape, u64::MAX).ok(), Some(u64::MAX));
+        assert_eq!(rt; draw_up_to(&mut tape, u64::MAX).ok(), Some(0));
+        assert_eq!(rt; draw_up_to(&mut tape, 3).ok(), Some(3));
+        assert_eq!(rt; refused(draw_up_to(&mut tape, 3)), Some(11));
+    }
+
     #[test]
     fn ranks_are_sampled(rt: HostRuntime) {
         let words = [3, 3, 9, 10, 2];
@@ -65,6 +76,16 @@ mod tests {
         let answer = sample_unique_indices(&mut Tape::new(&words), 12, 5, &mut ranks);
         assert_eq!(rt; answer.ok(), Some(5));
         assert_eq!(rt; keys(ranks), [3, 8, 9, 10, 2, 7]);
+    }
+
+    // All ranks, where more are asked for than there are.
+    #[test]
+    fn all_ranks_are_sampled(rt: HostRuntime) {
+        let words = [0, 0, 0];
+        let mut ranks = slots([7; 6]);
+        let answer = sample_unique_indices(&mut Tape::new(&words), 3, 5, &mut ranks);
+        assert_eq!(rt; answer.ok(), Some(3));
+        assert_eq!(rt; keys(ranks), [0, 1, 2, 7, 7, 7]);
     }
 
     #[test]
@@ -91,6 +112,15 @@ mod tests {
             refused(shuffle_items(&mut items, &mut Tape::new(&words))),
             Some(11)
         );
+    }
+
+    // The exchanges made before the words ran out stay.
+    #[test]
+    fn spent_shuffles_stay(rt: HostRuntime) {
+        let words = [3, 3, 9, 10];
+        let mut items = [0u8, 1, 2, 3, 4, 5];
+        assert!(rt; shuffle_items(&mut items, &mut Tape::new(&words)).is_err());
+        assert_eq!(rt; items, [0, 2, 4, 1, 5, 3]);
     }
 
     #[test]
@@ -136,5 +166,25 @@ mod tests {
         );
         // nothing was written
         assert!(rt; members.iter().copied().eq(0..32));
+    }
+
+    #[test]
+    fn sets_are_refused(rt: HostRuntime) {
+        assert_eq!(rt; refused(count_sets(1, 1, singles())), Some(1));
+        assert_eq!(rt; refused(count_sets(65, 1, singles())), Some(2));
+        assert_eq!(rt; refused(count_sets(4, 0, singles())), Some(3));
+        assert_eq!(rt; refused(count_sets(4, 4, singles())), Some(4));
+        let mut members = [9usize; 2];
+        assert_eq!(rt;
+            refused(write_set(4, 3, singles(), 0, &mut members)),
+            Some(15)
+        );
+        assert_eq!(rt;
+            refused(write_set(4, 2, singles(), 6, &mut members)),
+            Some(16)
+        );
+        assert_eq!(rt; members, [9, 9]);
+        // with no boundary, the four are alike, and have one set
+        assert_eq!(rt; count_sets(4, 2, CellState::initial()).ok(), Some(1));
     }
 }

@@ -6,7 +6,9 @@ ghost use Rattle.std.specs.Prelude.{◌≤◌};
 
 #[cfg(test)]
 mod tests {
-    use electors::{Dynamic, Elector, ElectorState, Lot, Rotation, Scheduled};
+    use electors::{
+        Dynamic, Elector, ElectorState, Lot, Rotation, Scheduled, elect_both, script_both,
+    };
     use refusals::Refusal;
     use scenarios::RoundScenario;
     use std::process::Abort;
@@ -273,6 +275,32 @@ mod tests {
         assert_eq!(rt; script.elect(0, 6, &input), 3);
         assert_eq!(rt; script.elect(0, 10, &input), 3);
         assert_eq!(rt; script.elect(0, 11, &input), 1);
+        Ok(())
+    }
+
+    // A script of no leaders means what the elector below it means, and so do scripts of the same leaders over the two.
+    #[test]
+    fn electors_of_one_meaning_agree(rt: HostRuntime) -> Result<(), Fail> {
+        let turns = Rotation::new(4, 5)?;
+        let Ok(empty) = ElectorState::new(turns, &[]) else {
+            panic!(rt; "refused");
+        };
+        for view in [0u64, 5, 6, 18446744073709551615] {
+            let (a, b) = elect_both(&turns, &empty, 7, view, &Scheduled);
+            assert!(rt; a == b);
+            assert!(rt; a == (4, 5, turns.elect(7, view, &Scheduled)));
+        }
+        let (over_turns, over_empty) = script_both(turns, empty, &[3, 1]);
+        let Ok(a) = over_turns else {
+            panic!(rt; "refused");
+        };
+        let Ok(b) = over_empty else {
+            panic!(rt; "refused");
+        };
+        for (view, leader) in [(5u64, 3usize), (6, 1), (10, 1), (11, 3), (16, 0)] {
+            assert_eq!(rt; a.elect(0, view, &Scheduled), leader);
+            assert_eq!(rt; b.elect(0, view, &Scheduled), leader);
+        }
         Ok(())
     }
 }
