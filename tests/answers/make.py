@@ -435,7 +435,18 @@ def elect_lines(oracle, words):
                 yield f"elect {pile} {view} {term} {count} {fallback} {answer}"
 
 
+OTHER = {"Both": "None", "None": "Both", "Primary": "Secondary", "Secondary": "Primary"}
+
+
+def wrong_lines(lines):
+    """The last line of each kind whose answer ends in a number or a target, with another one in its place."""
+    last = {line.split()[0]: line.split() for line in lines if line.split()[-1].isdecimal() or line.split()[-1] in OTHER}
+    for *kept, answer in last.values():
+        yield " ".join([*kept, OTHER.get(answer) or str(int(answer) ^ 1)])
+
+
 def write(crates, program, lines):
+    lines = [*lines, *wrong_lines(lines)]
     with open(os.path.join(crates, program, "stdin"), "w", encoding="ascii", newline="\n") as file:
         file.writelines(line + "\n" for line in lines)
 
