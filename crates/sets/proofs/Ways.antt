@@ -1,7 +1,7 @@
 -- Ways of cells: how many sets they have, for each number of faults below 64.
 use Rattle.std.proofs.Common.{◌≡◌, ℕ, ◌+◌, ◌-◌, ◌^◌, ◌<◌, ◌≤◌, min, Bool, true, false, cond, eqb, List, [], ◌∷◌, map, length, get_or, take, drop, reverse, sum, sym, refl, ap, ◌∙◌, arith}
 use borrow.Rule.Slice.PartMut.{mid_of}
-use Rattle.std.specs.List.{range_with_len, enumerate_from}
+use Rattle.std.specs.List.{range_with_len, enumerate_from, AllByRecursion}
 use Rattle.std.proofs.lemmas.List.{length-take, length-drop, length-reverse, get_or-take, get_or-drop, get_or-reverse}
 use Rattle.std.proofs.lemmas.List.FromFn.{length-enumerate_from, get_or-enumerate_from}
 use Rattle.std.proofs.lemmas.Grind.{get_or_default_zero}
@@ -10,8 +10,7 @@ use Rattle.sets.specs.Sets.{amounts}
 use Rattle.sets.proofs.Totals.{same_totals, back_total, total_counting_more}
 use Rattle.sets.proofs.Amounts.{length_amounts}
 use Rattle.sets.proofs.Bounds.{amounts_fit}
-use Rattle.sets.proofs.Cellwise.{row_filled, row_small}
-use Rattle.sets.specs.Ways.{sizes, InRow, Ways, ways_below, with_one_more}
+use Rattle.sets.specs.Ways.{Ways, ways_below, with_one_more}
 
 pub fewer_ways : (ways cs : List ℕ) (k n : ℕ) → k < 64 → Ways ways cs → total (map (λ t. get_or ways (k - t) 0) (range_with_len 0 n)) ≡ total (map (λ t. length (amounts cs (k - t))) (range_with_len 0 n))
 fewer_ways ways cs k n h w = same_totals (λ t. get_or ways (k - t) 0) (λ t. length (amounts cs (k - t))) 0 n (λ t l m. w (k - t) (omega arith))
@@ -19,11 +18,10 @@ fewer_ways ways cs k n h w = same_totals (λ t. get_or ways (k - t) 0) (λ t. le
 pub ways_more : (ways : List ℕ) (c : ℕ) (cs : List ℕ) → Ways ways cs → (k : ℕ) → k < 64 → with_one_more ways c k ≡ length (amounts (c ∷ cs) k)
 ways_more ways c cs w k h = fewer_ways ways cs k (min c k + 1) h w ∙ sym (length_amounts c cs k)
 
-pub ways_fit : (ways : List ℕ) (r : ℕ × ℕ) (rs : List (ℕ × ℕ)) → InRow (r ∷ rs) → Ways ways (sizes rs) → (k : ℕ) → k < 64 → with_one_more ways r.1 k < 2 ^ 64
-ways_fit ways r rs row w k h =
-    let small = row_small row.0 (r ∷ rs) row.1 in
-    let fit = amounts_fit (sizes (r ∷ rs)) k (row_filled row.0 (r ∷ rs) row.1) (omega arith) in
-    let is = ways_more ways r.1 (sizes rs) w k h in
+pub ways_fit : (ways : List ℕ) (c : ℕ) (cs : List ℕ) → AllByRecursion (λ c. 0 < c) (c ∷ cs) → total (c ∷ cs) ≤ 64 → Ways ways cs → (k : ℕ) → k < 64 → with_one_more ways c k < 2 ^ 64
+ways_fit ways c cs filled small w k h =
+    let fit = amounts_fit (c ∷ cs) k filled small in
+    let is = ways_more ways c cs w k h in
     omega arith
 
 -- the sum of what is owned, from the last place that the cell may leave on

@@ -4,9 +4,9 @@
 #![tactic(auto)]
 
 ghost use Rattle.std.specs.Prelude.{◌≡◌, ℕ, ◌+◌, ◌-◌, ◌^◌, ◌<◌, ◌≤◌, min, ◌++◌, length, take, drop, Some, None, Ok, Err, slice_index};
-ghost use Rattle.std.specs.List.{range_with_len};
+ghost use Rattle.std.specs.List.{range_with_len, AllByRecursion};
 ghost use Rattle.refusals.specs.Refusals.{number_of};
-ghost use Rattle.scenarios.specs.Cells.{cells, ranges_from};
+ghost use Rattle.scenarios.specs.Cells.{cells, ranges_from, total};
 ghost use Rattle.sets.specs.Sets.{amounts};
 ghost use Rattle.sets.specs.Ways as ways;
 ghost use Rattle.sets.specs.Answers.{faults_fault, SetsCounted, SetWritten};
@@ -67,7 +67,8 @@ fn campaign_cells(
 
 // How many sets the cells have, for each number of faults below 64.
 fn count_ways(cells: &[(usize, usize)]) -> [u64; 64]
-    requires { ways.InRow cells.now }
+    requires filled { AllByRecursion (λ c. 0 < c) (ways.sizes cells.now) }
+    requires small { total (ways.sizes cells.now) ≤ 64 }
     ensures { ways.Ways result (ways.sizes cells.now) }
 {
     let [(_, len), rest @ ..] = cells else {

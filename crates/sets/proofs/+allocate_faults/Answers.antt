@@ -1,7 +1,7 @@
 use Rattle.std.proofs.Common.{◌++◌, ◌<◌, drop, length, sym, ap, ◌∙◌, subst, arith}
 use Rattle.sets.specs.Sets.{amounts}
 use Rattle.sets.specs.Ways.{sizes, InRow, allocated}
-use Rattle.sets.proofs.Cellwise.{cells_none, cells_more}
+use Rattle.sets.proofs.Cellwise.{row_filled, row_small, cells_none, cells_more}
 use Rattle.sets.proofs.Ways.{ways_more}
 use Rattle.sets.proofs.Allocating.{allocated_none, allocated_written, cell_fits}
 use Rattle.sets.proofs.+allocate_faults.Goals as goal
@@ -11,6 +11,12 @@ returns-in_default t c =
     let none = cells_none c.args.cells.now c.in_default.len_below in
     allocated_none c.args.faults c.args.number c.args.members.now (subst (λ rs. c.args.number < length (amounts (sizes rs) c.args.faults)) none c.requires.numbered)
     ∙ ap (λ rs. allocated rs c.args.faults c.args.number ++ drop c.args.faults c.args.members.now) (sym none)
+
+pub count_ways-requires : goal.count_ways-requires
+count_ways-requires t c =
+    let row = subst InRow (cells_more c.args.cells.now c.in-len1-up.len_at_least) c.requires.row in
+    let small = row_small _ _ row.1.2 in
+    record { filled = row_filled _ _ row.1.2; small = omega arith }
 
 pub find_taken-taken-requires : goal.find_taken-taken-requires
 find_taken-taken-requires t c =

@@ -1,5 +1,6 @@
-use Rattle.std.proofs.Common.{◌∙◌}
+use Rattle.std.proofs.Common.{◌∙◌, arith}
 use Rattle.scenarios.specs.Cells.{cells}
+use Rattle.sets.proofs.Cellwise.{row_filled, row_small}
 use Rattle.sets.proofs.Campaigns.{cells_in_row, cells_whole, sets_counted}
 use Rattle.sets.proofs.Corresponding.{sets_correspond}
 use Rattle.sets.proofs.Sufficing.{sets_suffice}
@@ -8,7 +9,9 @@ use Rattle.sets.proofs.count_sets.Goals as goal
 pub count_ways-requires : goal.count_ways-requires
 count_ways-requires c =
     let told = c.in_ok-cells.ensures in
-    cells_in_row c.args.participants c.args.faults c.args.state.boundaries _ told.0 (c.as_slice.ensures.value ∙ told.1)
+    let row = cells_in_row c.args.participants c.args.faults c.args.state.boundaries _ told.0 (c.as_slice.ensures.value ∙ told.1) in
+    let small = row_small row.0 _ row.1 in
+    record { filled = row_filled row.0 _ row.1; small = omega arith }
 
 pub returns : goal.returns
 returns c =

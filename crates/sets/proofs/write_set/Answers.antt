@@ -1,13 +1,16 @@
 use Rattle.std.proofs.Common.{◌<◌, ◌≤◌, ◌++◌, length, drop, refl, ap, ◌∙◌, arith}
 use Rattle.scenarios.specs.Cells.{cells}
 use Rattle.sets.specs.Sets.{sets}
+use Rattle.sets.proofs.Cellwise.{row_filled, row_small}
 use Rattle.sets.proofs.Campaigns.{faults_few, cells_in_row, sets_counted, set_allocated, no_such_number, no_fault}
 use Rattle.sets.proofs.write_set.Goals as goal
 
 pub count_ways-requires : goal.count_ways-requires
 count_ways-requires c =
     let told = c.in_ok-cells.ensures in
-    cells_in_row c.args.participants c.args.faults c.args.state.boundaries _ told.0 (c.as_slice-cells.ensures.value ∙ told.1)
+    let row = cells_in_row c.args.participants c.args.faults c.args.state.boundaries _ told.0 (c.as_slice-cells.ensures.value ∙ told.1) in
+    let small = row_small row.0 _ row.1 in
+    record { filled = row_filled row.0 _ row.1; small = omega arith }
 
 pub returns-then-number-count_ways : goal.returns-then-number-count_ways
 returns-then-number-count_ways c =
