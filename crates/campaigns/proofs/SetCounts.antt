@@ -1,5 +1,5 @@
 -- A counted plan has a scenario for each rank below its total, and a number of sets for that.
-use Rattle.std.proofs.Common.{◌≡◌, ℕ, ◌<◌, ◌≤◌, List, length, Some, None, Ok, Err, Result, replicate, refl, ap, ◌∙◌, subst, arith}
+use Rattle.std.proofs.Common.{◌≡◌, ℕ, ◌<◌, ◌≤◌, List, length, Some, None, Ok, Err, Result, replicate, ap, ◌∙◌, subst, arith}
 use Rattle.std.specs.Result.{result_ok}
 use Rattle.std.proofs.lemmas.Bool.Decides.{nat_tests}
 use Rattle.refusals.specs.declared.Refusal.{Refusal}
@@ -25,9 +25,6 @@ use Rattle.campaigns.specs.Tickets.{set_count}
 abbrev pub blank : List RoundScenario
 blank = replicate 64 (record { leader = 0; primary = 0; secondary = 0 })
 
-long : length blank ≡ 64
-long = refl
-
 residual_cells : (mode : Mode) (n R k : ℕ) → 0 < n → k < total_of mode n R → CellsOf n (residual_of mode n R k)
 residual_cells Sampled n R k h b = (cells_residual turns_fit rounds_stand n R k h b).0
 residual_cells Sustained n R k h b = (cells_residual turns_fit rounds_stand n 1 k h b).0
@@ -42,29 +39,29 @@ module _ (p : Plan) (total : ℕ) (memory : List Slot) (counted : Counted p tota
   lower : rank < total_of p.mode p.participants p.rounds
   lower = let e = counted.total_is in omega arith
 
-  pub scenario_refused : (ys : List RoundScenario) (q : Result CellState Refusal) → None ≡ result_ok q → ScenarioTold p rank blank q ys → ⊥
-  scenario_refused ys (Ok s) none t = let z : None ≡ Some s = none in cc
-  scenario_refused ys (Err e) none t =
+  pub scenario_refused : (xs ys : List RoundScenario) (q : Result CellState Refusal) → length xs ≡ 64 → None ≡ result_ok q → ScenarioTold p rank xs q ys → ⊥
+  scenario_refused xs ys (Ok s) l none t = let z : None ≡ Some s = none in cc
+  scenario_refused xs ys (Err e) l none t =
       let s = plan_sound p.participants p.faults p.rounds p.cap counted.rules in
-      let q = scenario_there p rank (length blank) (omega (arith, long)) lower in
+      let q = scenario_there p rank (length xs) (omega arith) lower in
       let b = t.0 in
       let z : ◌≡◌ {A = ℕ} 0 1 = cc in omega arith
 
-  counted_sets : (ys : List RoundScenario) (s : CellState) (r : Result ℕ Refusal) → ScenarioTold p rank blank (Ok s) ys → SetsCounted p.participants p.faults s.boundaries r → r ≡ Ok (set_count p rank)
-  counted_sets ys s (Ok v) t c =
+  counted_sets : (xs ys : List RoundScenario) (s : CellState) (r : Result ℕ Refusal) → ScenarioTold p rank xs (Ok s) ys → SetsCounted p.participants p.faults s.boundaries r → r ≡ Ok (set_count p rank)
+  counted_sets xs ys s (Ok v) t c =
       let b = plan_sound p.participants p.faults p.rounds p.cap counted.rules in
       let cs = residual_of p.mode p.participants p.rounds rank in
       let h : 0 < p.participants = omega arith in
       let e : cells p.participants s.boundaries ≡ cs = ap (cells p.participants) t.2 ∙ cells_boundaries p.participants cs h (residual_cells p.mode p.participants p.rounds rank h lower) in
       ap Ok (c.1 ∙ ap (λ l. length (sets l p.faults)) e)
-  counted_sets ys s (Err e) t c =
+  counted_sets xs ys s (Err e) t c =
       let b = plan_sound p.participants p.faults p.rounds p.cap counted.rules in
       let q = no_fault p.participants p.faults b.0 b.1 b.2 b.3 in
       absurd (let z : ◌≡◌ {A = ℕ} 0 1 = cc in omega arith)
 
-  pub sets_of_rank : (ys : List RoundScenario) (q : Result CellState Refusal) (s : CellState) (r : Result ℕ Refusal) → Some s ≡ result_ok q → ScenarioTold p rank blank q ys → SetsCounted p.participants p.faults s.boundaries r
-      → result_ok r ≡ Some (set_count p rank)
-  sets_of_rank ys (Ok s₀) s r is t c =
+  pub sets_of_rank : (xs ys : List RoundScenario) (q : Result CellState Refusal) (s : CellState) (r : Result ℕ Refusal) → Some s ≡ result_ok q → ScenarioTold p rank xs q ys → SetsCounted p.participants p.faults s.boundaries r
+      → r ≡ Ok (set_count p rank)
+  sets_of_rank xs ys (Ok s₀) s r is t c =
       let same : s₀ ≡ s = let z : Some s ≡ Some s₀ = is in cc in
-      ap result_ok (counted_sets ys s r (subst (λ s. ScenarioTold p rank blank (Ok s) ys) same t) c)
-  sets_of_rank ys (Err e) s r is t c = absurd (let z : Some s ≡ None = is in cc)
+      counted_sets xs ys s r (subst (λ s. ScenarioTold p rank xs (Ok s) ys) same t) c
+  sets_of_rank xs ys (Err e) s r is t c = absurd (let z : Some s ≡ None = is in cc)
