@@ -7,6 +7,7 @@ use crate::tally::Tallies;
 use crate::unasked::Unasked;
 use std::alloc::{AllocError, Global};
 use std::io;
+use std::io::Write;
 
 // The kind that a word names.
 fn kind_of<Q: Question>(word: &str) -> Option<Q>
@@ -39,22 +40,38 @@ fn ask<Q: Question>(
     Ok(agreed)
 }
 
-// Asks the questions of standard input, a line each, and prints the number of each line that does not agree, or that is no
-// question, and at the end how many of each kind agree.
-pub fn ask_all<Q: Question, R: Input + Print>(
-    rt: &R,
+// Asks the question of a line, and writes the number of the line where its answer does not agree, or where it is no question.
+fn answer_line<Q: Question, W: Write>(
+    number: u64,
+    line: &str,
     heap: Global,
+    out: &mut W,
+    memory: &mut Q::Memory,
+    tallies: &mut Tallies<Q>,
+) -> io::Result<()> {
+    if !ask(line, heap, memory, tallies)? {
+        writeln!(out, "line {number} does not agree")?;
+    }
+    Ok(())
+}
+
+// Asks the questions of the lines, and writes the number of each line that does not agree, or that is no question, and at the
+// end how many of each kind agree. A line that cannot be read ends it, and then no tally is written.
+pub fn ask_all<Q: Question, L: Iterator<Item = io::Result<String>> + Drop, W: Write>(
+    lines: L,
+    heap: Global,
+    out: &mut W,
     memory: &mut Q::Memory,
 ) -> io::Result<()> {
     let mut tallies = Tallies::<Q>::none(heap)?;
-    for (before, line) in rt.lines(heap).enumerate() {
-        if !ask(line?.as_str(), heap, memory, &mut tallies)? {
-            println!(rt; "line {} does not agree", before + 1)?;
-        }
+    let mut number: u64 = 0;
+    for line in lines {
+        number = number.saturating_add(1);
+        answer_line(number, line?.as_str(), heap, out, memory, &mut tallies)?;
     }
     for (kind, tally) in &tallies.each {
         let word = kind.word();
-        println!(rt; "{word} {tally}")?;
+        writeln!(out, "{word} {tally}")?;
     }
     Ok(())
 }
