@@ -19,7 +19,7 @@ pub use words::{Bar, are_next, read, read_while};
 
 #[cfg(test)]
 mod tests {
-    use crate::{Round, are_next, read_while};
+    use crate::{Round, Unasked, are_next, read_while};
     use scenarios::RoundScenario;
     use std::test::Fail;
 
@@ -38,6 +38,14 @@ mod tests {
         assert!(rt; are_next::<u64>(&mut words, &[7, 8])?);
         let (none, end) = read_while::<u64>(&mut words, rt.alloc(), 0)?;
         assert!(rt; none.is_empty() && end.is_none());
+        let mut words = "3 5 7 9".split_whitespace();
+        assert!(rt;
+            matches!(
+                read_while::<u64>(&mut words, rt.alloc(), 2),
+                Err(Unasked::Form)
+            )
+        );
+        assert!(rt; words.next() == Some("9"));
         Ok(())
     }
 }

@@ -1,5 +1,5 @@
 // Reading the words of a line.
-ghost use Rattle.std.specs.Prelude.{◌≡◌, IfOk};
+ghost use Rattle.std.specs.Prelude.{◌≡◌, ◌≤◌, length, IfOk, IfErr};
 ghost use Rattle.asking.specs.Words as told;
 
 use crate::unasked::Unasked;
@@ -25,7 +25,9 @@ pub fn read_while<'a, T: FromStr + Drop>(
 ) -> Result<(Vec<T>, Option<&'a str>), Unasked>
 where
     T::Err: Drop,
-    ensures { IfOk result (λ read. told.ReadsWhile T.from_str_gives words.old read.0.items read.1 words.new) }
+    ensures read { IfOk result (λ read. told.ReadsWhile T.from_str_gives words.old read.0.items read.1 words.new) }
+    ensures bound { IfOk result (λ read. length read.0.items ≤ most) }
+    ensures unread { IfErr result (λ e. told.StopsReading T.from_str_gives most words.old e words.new) }
 {
     let mut items = Vec::new(heap);
     while let Some(word) = words.next() {
