@@ -1,2 +1,3 @@
+mod Answering
 mod Noting
 mod RoundParts

@@ -1,6 +1,8 @@
 // Asking the questions of all lines.
-ghost use Rattle.std.specs.Prelude.{◌≡◌, IfOk, OnErr};
-ghost use Rattle.asking.specs.Lines.{kind_of, Asks};
+ghost use Rattle.std.specs.Prelude.{◌≡◌, ℕ, Bool, List, IfOk, OnOk, OnErr, string_bytes};
+ghost use Rattle.std.specs.Iterator.{IsFinite};
+ghost use Rattle.std.specs.Io.KnownBytes.{Appends};
+ghost use Rattle.asking.specs.Lines.{kind_of, Asks, fault_of, closing, Report, GivesAll};
 
 use crate::question::Question;
 use crate::tally::Tallies;
@@ -48,9 +50,22 @@ fn answer_line<Q: Question, W: Write>(
     out: &mut W,
     memory: &mut Q::Memory,
     tallies: &mut Tallies<Q>,
-) -> io::Result<()> {
+) -> io::Result<()>
+    ensures { OnOk result ((agrees : Bool) × Asks Q.word Q.kinds Q.eq line.now agrees tallies.old.each.items tallies.new.each.items × Appends (W.contents out.old) (W.contents out.new) (fault_of number agrees)) }
+{
     if !ask(line, heap, memory, tallies)? {
         writeln!(out, "line {number} does not agree")?;
+    }
+    Ok(())
+}
+
+// Writes how many of each kind agree.
+fn write_tallies<Q: Question, W: Write>(tallies: &Tallies<Q>, out: &mut W) -> io::Result<()>
+    ensures { OnOk result (Appends (W.contents out.old) (W.contents out.new) (closing Q.word tallies.now.each.items)) }
+{
+    for (kind, tally) in &tallies.each {
+        let word = kind.word();
+        writeln!(out, "{word} {tally}")?;
     }
     Ok(())
 }
@@ -62,16 +77,16 @@ pub fn ask_all<Q: Question, L: Iterator<Item = io::Result<String>> + Drop, W: Wr
     heap: Global,
     out: &mut W,
     memory: &mut Q::Memory,
-) -> io::Result<()> {
+) -> io::Result<()>
+    requires can { L.can_next lines }
+    requires ends { IsFinite (L.remaining lines) }
+    ensures { OnOk result ((given : List (List ℕ)) × (text : List ℕ) × GivesAll L.next_gives string_bytes lines given × Report Q.word Q.kinds Q.eq given text × Appends (W.contents out.old) (W.contents out.new) text) }
+{
     let mut tallies = Tallies::<Q>::none(heap)?;
     let mut number: u64 = 0;
     for line in lines {
         number = number.saturating_add(1);
         answer_line(number, line?.as_str(), heap, out, memory, &mut tallies)?;
     }
-    for (kind, tally) in &tallies.each {
-        let word = kind.word();
-        writeln!(out, "{word} {tally}")?;
-    }
-    Ok(())
+    write_tallies(&tallies, out)
 }
