@@ -1,3 +1,4 @@
 mod Answering
 mod Noting
+mod Reading
 mod RoundParts

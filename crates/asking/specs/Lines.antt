@@ -1,8 +1,11 @@
--- What the questions of lines do to the tallies, and what is written of them.
-use Rattle.std.specs.Prelude.{◌≡◌, ℕ, Bool, false, cond, List, [], ◌∷◌, ◌++◌, map, flat_map, Option, MatchOption, Result, Ok, find, codes, decimal}
+-- Which lines an input gives, what their questions do to the tallies, and what is written of them.
+use Rattle.std.specs.Prelude.{◌≡◌, ℕ, ◌<◌, Bool, false, cond, List, [], ◌∷◌, ◌++◌, length, map, flat_map, Option, IfSome, MatchOption, Result, Ok, find, codes, decimal}
+use Rattle.std.specs.Io.BufRead.{first_line, drop_through}
+use Rattle.std.specs.Io.Iter.{lines_known_bytes}
 use Rattle.std.specs.Iterator.{Drains}
 use Rattle.std.specs.Str.{bytes_eq}
 use Rattle.std.specs.Str.Iter.{split_whitespace_steps, split_whitespace_rest}
+use Rattle.std.specs.declared.io.traits.Lines.{Lines}
 use Rattle.std.specs.declared.str.SplitWhitespace.{SplitWhitespace}
 use denote.Ref.{Bor}
 use Rattle.asking.specs.declared.tally.Tally.{Tally}
@@ -47,3 +50,12 @@ Report {Q} word kinds same lines text = (faults : List ℕ) × (tallies : List (
 -- an iterator gives texts to its end, and these are their bytes
 abbrev pub GivesAll : {S A E : Type 0} → (S → Option (Result A E) → S → Type 0) → (A → List ℕ) → S → List (List ℕ) → Type 0
 GivesAll {A} steps bytes s lines = (given : List A) × Drains steps s (map Ok given) × (lines ≡ map bytes given)
+
+-- the bytes are these lines, one after the other, each with its end, but for the last, which may have none
+abbrev pub AreLines : List ℕ → List (List ℕ) → Type 0
+AreLines xs [] = xs ≡ []
+AreLines xs (line ∷ lines) = (0 < length xs) × (line ≡ first_line xs) × AreLines (drop_through 10 xs) lines
+
+-- these are all the lines that an input gives; where the bytes that it has left are known, they are the lines of these bytes
+abbrev pub LinesOf : {R H A E : Type 0} → (Lines R H → Option (Result A E) → Lines R H → Type 0) → (A → List ℕ) → (R → Option (List ℕ)) → R → List (List ℕ) → Type 0
+LinesOf {R} {H} steps bytes left input lines = (s : Lines R H) × (lines_known_bytes left s ≡ left input) × GivesAll steps bytes s lines × IfSome (left input) (λ xs. AreLines xs lines)

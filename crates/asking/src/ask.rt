@@ -2,14 +2,14 @@
 ghost use Rattle.std.specs.Prelude.{◌≡◌, ℕ, Bool, List, IfOk, OnOk, OnErr, string_bytes};
 ghost use Rattle.std.specs.Iterator.{IsFinite};
 ghost use Rattle.std.specs.Io.KnownBytes.{Appends};
-ghost use Rattle.asking.specs.Lines.{kind_of, Asks, fault_of, closing, Report, GivesAll};
+ghost use Rattle.asking.specs.Lines.{kind_of, Asks, fault_of, closing, Report, GivesAll, LinesOf};
 
 use crate::question::Question;
 use crate::tally::Tallies;
 use crate::unasked::Unasked;
 use std::alloc::{AllocError, Global};
 use std::io;
-use std::io::Write;
+use std::io::{BufRead, Lines, Write};
 
 // The kind that a word names.
 fn kind_of<Q: Question>(word: &str) -> Option<Q>
@@ -70,9 +70,8 @@ fn write_tallies<Q: Question, W: Write>(tallies: &Tallies<Q>, out: &mut W) -> io
     Ok(())
 }
 
-// Asks the questions of the lines, and writes the number of each line that does not agree, or that is no question, and at the
-// end how many of each kind agree. A line that cannot be read ends it, and then no tally is written.
-pub fn ask_all<Q: Question, L: Iterator<Item = io::Result<String>> + Drop, W: Write>(
+// Asks the questions of the lines, one after the other, and then writes the tallies.
+fn ask_lines<Q: Question, L: Iterator<Item = io::Result<String>> + Drop, W: Write>(
     lines: L,
     heap: Global,
     out: &mut W,
@@ -89,4 +88,17 @@ pub fn ask_all<Q: Question, L: Iterator<Item = io::Result<String>> + Drop, W: Wr
         answer_line(number, line?.as_str(), heap, out, memory, &mut tallies)?;
     }
     write_tallies(&tallies, out)
+}
+
+// Asks the questions of the lines that are left of the input, and writes the number of each line that does not agree, or that is
+// no question, and at the end how many of each kind agree. A line that cannot be read ends it, and then no tally is written.
+pub fn ask_all<Q: Question, R: BufRead + Drop, W: Write>(
+    input: R,
+    heap: Global,
+    out: &mut W,
+    memory: &mut Q::Memory,
+) -> io::Result<()>
+    ensures { OnOk result ((given : List (List ℕ)) × (text : List ℕ) × LinesOf ⟦<Lines<R, Global> as Iterator>⟧.next_gives string_bytes R.remaining input given × Report Q.word Q.kinds Q.eq given text × Appends (W.contents out.old) (W.contents out.new) text) }
+{
+    ask_lines::<Q, _, _>(input.lines(heap), heap, out, memory)
 }

@@ -4,7 +4,6 @@ ghost use Rattle.std.specs.Prelude.{false, true, cond, [], ◌∷◌, codes};
 use crate::{Question, Round, Unasked, are_next, ask_all, read, read_while};
 use scenarios::RoundScenario;
 use std::alloc::Global;
-use std::io::BufRead;
 use std::str::SplitWhitespace;
 use std::test::Fail;
 
@@ -48,8 +47,8 @@ impl Question for Kind {
 fn asks_each_line_and_tells_of_faults_and_kinds(rt: HostRuntime) -> Result<(), Fail> {
     let heap = rt.alloc();
     let mut out = Vec::<u8>::new(heap);
-    let lines = b"double 3 6\nhalf 9 3\nthird 9 3\n".as_slice().lines(heap);
-    ask_all::<Kind, _, _>(lines, heap, &mut out, &mut ())?;
+    let input = b"double 3 6\nhalf 9 3\nthird 9 3\n".as_slice();
+    ask_all::<Kind, _, _>(input, heap, &mut out, &mut ())?;
     let told =
         "line 2 does not agree\nline 3 does not agree\nhalf 0 of 1 agree\ndouble 1 of 1 agree\n";
     assert!(rt; out.as_slice() == told.as_bytes());
@@ -60,8 +59,8 @@ fn asks_each_line_and_tells_of_faults_and_kinds(rt: HostRuntime) -> Result<(), F
 fn tells_of_no_kinds_behind_a_line_that_cannot_be_read(rt: HostRuntime) -> Result<(), Fail> {
     let heap = rt.alloc();
     let mut out = Vec::<u8>::new(heap);
-    let lines = b"half 9 3\n\xff\n".as_slice().lines(heap);
-    assert!(rt; ask_all::<Kind, _, _>(lines, heap, &mut out, &mut ()).is_err());
+    let input = b"half 9 3\n\xff\n".as_slice();
+    assert!(rt; ask_all::<Kind, _, _>(input, heap, &mut out, &mut ()).is_err());
     assert!(rt; out.as_slice() == b"line 1 does not agree\n".as_slice());
     Ok(())
 }

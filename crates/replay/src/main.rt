@@ -15,7 +15,7 @@
 use asking::ask_all;
 use scenarios::{CellState, Place, Slot};
 use std::io;
-use std::io::{BufRead, BufReader, BufWriter, Write};
+use std::io::{BufReader, BufWriter, Write};
 use table::Entry;
 
 mod answer;
@@ -38,7 +38,7 @@ fn main(rt: HostRuntime) -> io::Result<()> {
     // on the heap because it is too large for the stack
     let mut memory: Vec<Slot> = vec![in heap; nothing; SLOTS]?;
     let mut out = BufWriter::new(heap, rt.stdout())?;
-    let lines = BufReader::new(heap, rt.stdin())?.lines(heap);
-    ask_all::<Kind, _, _>(lines, heap, &mut out, &mut memory)?;
+    let input = BufReader::new(heap, rt.stdin())?;
+    ask_all::<Kind, _, _>(input, heap, &mut out, &mut memory)?;
     out.flush()
 }

@@ -31,7 +31,7 @@
 use asking::ask_all;
 use sampling::RankSlot;
 use std::io;
-use std::io::{BufRead, BufReader, BufWriter, Write};
+use std::io::{BufReader, BufWriter, Write};
 use table::Entry;
 
 mod allocation;
@@ -51,7 +51,7 @@ fn main(rt: HostRuntime) -> io::Result<()> {
     let heap = rt.alloc();
     let mut memory: Vec<RankSlot> = vec![in heap; Entry { key: 0, value: () }; RANKS]?;
     let mut out = BufWriter::new(heap, rt.stdout())?;
-    let lines = BufReader::new(heap, rt.stdin())?.lines(heap);
-    ask_all::<Kind, _, _>(lines, heap, &mut out, &mut memory)?;
+    let input = BufReader::new(heap, rt.stdin())?;
+    ask_all::<Kind, _, _>(input, heap, &mut out, &mut memory)?;
     out.flush()
 }

@@ -1,7 +1,7 @@
 use Rattle.std.proofs.Common.{string_bytes}
 use Rattle.std.specs.Iterator.{IsFinite}
 use Rattle.asking.proofs.Answering.{SoFar}
-use Rattle.asking.proofs.ask.ask_all.Given as goal
+use Rattle.asking.proofs.ask.ask_lines.Given as goal
 
 abbrev pub invariant-loop-line : goal.invariant-loop-line
 invariant-loop-line g l =
