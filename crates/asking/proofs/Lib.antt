@@ -1,2 +1,4 @@
+mod Answering
 mod Noting
+mod Reading
 mod RoundParts

@@ -8,7 +8,7 @@ no_tally = record { asked = 0; agreed = 0 }
 abbrev pub none_asked : {Q : Type 0} → List Q → List (Q × Tally)
 none_asked kinds = map (λ kind. (kind, no_tally)) kinds
 
-abbrev up : ℕ → ℕ
+abbrev pub up : ℕ → ℕ
 up k = min (k + 1) (2 ^ 64 - 1)
 
 abbrev pub one_more : Bool → Tally → Tally

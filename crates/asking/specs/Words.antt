@@ -1,12 +1,12 @@
 -- What is read of the words of a line.
-use Rattle.std.specs.Prelude.{◌≡◌, ℕ, Bool, true, false, cond, List, [], ◌∷◌, Option, Some, IfSome, Result, Ok, Err, MatchOption, MatchResult, codes}
+use Rattle.std.specs.Prelude.{◌≡◌, ℕ, ◌+◌, ◌⊎◌, Bool, true, false, cond, List, [], ◌∷◌, length, Option, Some, IfSome, Result, Ok, Err, MatchOption, MatchResult, codes}
 use Rattle.std.specs.Str.{bytes_eq}
 use Rattle.std.specs.Str.Iter.{split_whitespace_steps}
 use Rattle.std.specs.declared.str.SplitWhitespace.{SplitWhitespace}
 use denote.Ref.{Bor}
 use Rattle.asking.specs.declared.words.Bar.{Bar}
 use Rattle.asking.specs.declared.unasked.Unasked.{Unasked}
-use Rattle.asking.specs.declared.unasked.Unasked.TheVariants.{Form}
+use Rattle.asking.specs.declared.unasked.Unasked.TheVariants.{Form, Memory}
 
 -- the bar
 abbrev pub bar_of : List ℕ → Result Bar Unasked
@@ -31,3 +31,12 @@ AreNext {T} gives same s (x ∷ xs) r t = (u : SplitWhitespace) × (word : Resul
 abbrev pub ReadsWhile : {T E : Type 0} → (List ℕ → Result T E → Type 0) → SplitWhitespace → List T → Option (Bor (List ℕ)) → SplitWhitespace → Type 0
 ReadsWhile {T} {E} gives s [] end t = split_whitespace_steps s end t × IfSome end (λ w. (e : E) × gives w.now (Err e))
 ReadsWhile gives s (x ∷ xs) end t = (u : SplitWhitespace) × (w : Bor (List ℕ)) × split_whitespace_steps s (Some w) u × gives w.now (Ok x) × ReadsWhile gives u xs end t
+
+-- the words are read as the values xs, one after the other, and t is behind them
+abbrev pub ReadsMany : {T E : Type 0} → (List ℕ → Result T E → Type 0) → SplitWhitespace → List T → SplitWhitespace → Type 0
+ReadsMany gives s [] t = t ≡ s
+ReadsMany gives s (x ∷ xs) t = (u : SplitWhitespace) × (w : Bor (List ℕ)) × split_whitespace_steps s (Some w) u × gives w.now (Ok x) × ReadsMany gives u xs t
+
+-- there is no memory, or the form is broken by one value more than the most, and t is behind it
+abbrev pub StopsReading : {T E : Type 0} → (List ℕ → Result T E → Type 0) → ℕ → SplitWhitespace → Unasked → SplitWhitespace → Type 0
+StopsReading {T} gives most s e t = (e ≡ Memory) ⊎ ((e ≡ Form) × (xs : List T) × (length xs ≡ most + 1) × ReadsMany gives s xs t)

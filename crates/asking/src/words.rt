@@ -1,9 +1,9 @@
 // Reading the words of a line.
-ghost use Rattle.std.specs.Prelude.{◌≡◌, IfOk};
+ghost use Rattle.std.specs.Prelude.{◌≡◌, ◌≤◌, length, IfOk, IfErr};
 ghost use Rattle.asking.specs.Words as told;
 
 use crate::unasked::Unasked;
-use std::alloc::{AllocError, Global};
+use std::alloc::Global;
 use std::str::{FromStr, SplitWhitespace};
 
 // The next word, as a value of the type that is wanted.
@@ -17,17 +17,22 @@ where
 }
 
 // The values that the next words write, up to a word that writes none, and that word; it is missing where the line ends before.
+// Where they are more than `most`, the form is broken, and what is behind the first too many is left.
 pub fn read_while<'a, T: FromStr + Drop>(
     words: &mut SplitWhitespace<'a>,
     heap: Global,
-) -> Result<(Vec<T>, Option<&'a str>), AllocError>
+    most: usize,
+) -> Result<(Vec<T>, Option<&'a str>), Unasked>
 where
     T::Err: Drop,
-    ensures { IfOk result (λ read. told.ReadsWhile T.from_str_gives words.old read.0.items read.1 words.new) }
+    ensures read { IfOk result (λ read. told.ReadsWhile T.from_str_gives words.old read.0.items read.1 words.new) }
+    ensures bound { IfOk result (λ read. length read.0.items ≤ most) }
+    ensures unread { IfErr result (λ e. told.StopsReading T.from_str_gives most words.old e words.new) }
 {
     let mut items = Vec::new(heap);
     while let Some(word) = words.next() {
         match word.parse::<T>() {
+            Ok(_) if items.len() >= most => return Err(Unasked::Form),
             Ok(item) => items.push(item)?,
             Err(_) => return Ok((items, Some(word))),
         }

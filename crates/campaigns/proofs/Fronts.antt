@@ -17,10 +17,10 @@ module _ (xs ts : List Ticket) (at : ℕ) (ys : List Ticket) (f : Front xs ts at
   length_front : length ys ≡ length xs
   length_front = let a = ap length f.held in let b = length-append ts (drop at xs) in let d = length-drop at xs in let l = f.place in let h = f.room in omega arith
 
-  take_front : take at ys ≡ ts
+  pub take_front : take at ys ≡ ts
   take_front = ap (take at) f.held ∙ take_at ts (drop at xs) at f.place
 
-  drop_front : drop at ys ≡ drop at xs
+  pub drop_front : drop at ys ≡ drop at xs
   drop_front = ap (drop at) f.held ∙ drop_at ts (drop at xs) at f.place
 
   -- what is written behind the front of ys stands behind the front of xs

@@ -75,12 +75,14 @@ pub(crate) fn edge_agrees(words: &mut SplitWhitespace<'_>) -> Result<bool, Unask
     Ok(edge_is(n, state, place, next, leader, rounds))
 }
 
-// The rounds up to the bar. The other program reads names so; in `asking` a promise for these lines would be longer than they are.
+// The rounds up to the bar, no more than a plan has. The other program reads names so; in `asking` a promise for these lines would be
+// longer than they are.
 fn read_rounds(
     words: &mut SplitWhitespace<'_>,
     heap: Global,
+    most: usize,
 ) -> Result<Vec<RoundScenario>, Unasked> {
-    let (rounds, Some("|")) = read_while::<Round>(words, heap)? else {
+    let (rounds, Some("|")) = read_while::<Round>(words, heap, most)? else {
         return Err(Unasked::Form);
     };
     Ok(rounds.iter().map(|read| read.round).collect(heap)?)
@@ -95,7 +97,7 @@ pub(crate) fn unrank_agrees(
 ) -> Result<bool, Unasked> {
     let plan = read_plan(words)?;
     let rank = read::<u64>(words)?;
-    let stored = read_rounds(words, heap)?;
+    let stored = read_rounds(words, heap, plan.rounds())?;
     let left = plan.canonical(&stored)?;
     let cells = left.cell_ranges(plan.participants())?;
     let counted = count(plan, memory)?;

@@ -15,6 +15,7 @@
 use asking::ask_all;
 use scenarios::{CellState, Place, Slot};
 use std::io;
+use std::io::{BufReader, BufWriter, Write};
 use table::Entry;
 
 mod answer;
@@ -36,5 +37,8 @@ fn main(rt: HostRuntime) -> io::Result<()> {
     };
     // on the heap because it is too large for the stack
     let mut memory: Vec<Slot> = vec![in heap; nothing; SLOTS]?;
-    ask_all::<Kind, _>(&rt, heap, &mut memory)
+    let mut out = BufWriter::new(heap, rt.stdout())?;
+    let input = BufReader::new(heap, rt.stdin())?;
+    ask_all::<Kind, _, _>(input, heap, &mut out, &mut memory)?;
+    out.flush()
 }

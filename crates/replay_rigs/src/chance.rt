@@ -10,6 +10,9 @@ use words::{Source, SplitMix64, Tape};
 // The longest list that is shuffled.
 const ITEMS: u64 = 256;
 
+// The longest tape; no question that is stored has a longer one.
+const WORDS: usize = 255;
+
 // Where a question's words come from. The two sources differ in type, so each is handed on in an arm of its own; a source
 // over both would match at every word.
 #[derive(Drop)]
@@ -20,7 +23,7 @@ enum Origin {
 
 // A tape or a seed, and the bar behind it.
 fn read_origin(words: &mut SplitWhitespace<'_>, heap: Global) -> Result<Origin, Unasked> {
-    match read_while::<u64>(words, heap)? {
+    match read_while::<u64>(words, heap, WORDS)? {
         (tape, Some("|")) => Ok(Origin::Tape(tape)),
         (tape, Some("seed")) if tape.is_empty() => {
             let seed = read::<u64>(words)?;
@@ -88,16 +91,11 @@ pub(crate) fn shuffle_agrees(
     }
 }
 
-pub(crate) fn splitmix_agrees(
-    words: &mut SplitWhitespace<'_>,
-    heap: Global,
-) -> Result<bool, Unasked> {
+pub(crate) fn splitmix_agrees(words: &mut SplitWhitespace<'_>) -> Result<bool, Unasked> {
     let mut source = SplitMix64::new(read(words)?);
-    let (stored, None) = read_while::<u64>(words, heap)? else {
-        return Err(Unasked::Form);
-    };
-    for word in &stored {
-        if source.take()? != *word {
+    // Word by word, since a line may have as many as it likes.
+    for word in words {
+        if source.take()? != word.parse::<u64>().map_err(|_| Unasked::Form)? {
             return Ok(false);
         }
     }

@@ -81,7 +81,7 @@ impl Question for Kind {
         match self {
             Kind::Sample => sample_agrees(words, heap, memory),
             Kind::Shuffle => shuffle_agrees(words, heap),
-            Kind::SplitMix => splitmix_agrees(words, heap),
+            Kind::SplitMix => splitmix_agrees(words),
             Kind::Sets => sets_agree(words),
             Kind::Set => set_agrees(words, heap),
             Kind::Place => place_agrees(words),

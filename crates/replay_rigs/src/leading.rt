@@ -5,20 +5,31 @@ use refusals::Refusal;
 use std::alloc::Global;
 use std::str::SplitWhitespace;
 
+// How many scripts there are over an elector at most.
+const HEIGHT: u64 = 3;
+
+// One leader more than a script can have, so that one too many is refused.
+const LEADERS: usize = 65;
+
 // The leaders of a script. One that is no number breaks the form, whatever its fault.
 fn script_of(word: &str, heap: Global) -> Result<Vec<usize>, Unasked> {
     if word == "-" {
         return Ok(Vec::new(heap));
     }
     word.split(',')
+        .take(LEADERS)
         .map(|leader| leader.parse::<usize>().map_err(|_| Unasked::Form))
         .try_collect(heap)
 }
 
-// A pile of scripts, the outermost first.
+// A pile of scripts, the outermost first. One too high is not read.
 fn read_pile(words: &mut SplitWhitespace<'_>, heap: Global) -> Result<Vec<Vec<usize>>, Unasked> {
+    let height = read::<u64>(words)?;
+    if height > HEIGHT {
+        return Err(Unasked::Form);
+    }
     let mut pile = Vec::new(heap);
-    for _ in 0..read::<u64>(words)? {
+    for _ in 0..height {
         let word = words.next().ok_or(Unasked::Form)?;
         pile.push(script_of(word, heap)?)?;
     }

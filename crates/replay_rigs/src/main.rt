@@ -31,6 +31,7 @@
 use asking::ask_all;
 use sampling::RankSlot;
 use std::io;
+use std::io::{BufReader, BufWriter, Write};
 use table::Entry;
 
 mod allocation;
@@ -49,5 +50,8 @@ const RANKS: usize = 4000;
 fn main(rt: HostRuntime) -> io::Result<()> {
     let heap = rt.alloc();
     let mut memory: Vec<RankSlot> = vec![in heap; Entry { key: 0, value: () }; RANKS]?;
-    ask_all::<Kind, _>(&rt, heap, &mut memory)
+    let mut out = BufWriter::new(heap, rt.stdout())?;
+    let input = BufReader::new(heap, rt.stdin())?;
+    ask_all::<Kind, _, _>(input, heap, &mut out, &mut memory)?;
+    out.flush()
 }

@@ -19,12 +19,18 @@ struct Split<'q> {
 // The groups of both halves that a line tells, or none where it says that the Rust panics.
 type Groups = Option<(Vec<u16>, Vec<u16>)>;
 
+// The longest script that is asked about; no question that is stored has a longer one.
+const ROUNDS: usize = 15;
+
+// As many names as there can be, and so as many in a group.
+const NAMES: usize = 64;
+
 // A script, and the view behind it.
 pub(crate) fn read_script(
     words: &mut SplitWhitespace<'_>,
     heap: Global,
 ) -> Result<(Vec<RoundScenario>, u64), Unasked> {
-    let (rounds, Some(view)) = read_while::<Round>(words, heap)? else {
+    let (rounds, Some(view)) = read_while::<Round>(words, heap, ROUNDS)? else {
         return Err(Unasked::Form);
     };
     let view = view.parse::<u64>().map_err(|_| Unasked::Form)?;
@@ -33,7 +39,7 @@ pub(crate) fn read_script(
 
 // The names up to the bar.
 fn read_names(words: &mut SplitWhitespace<'_>, heap: Global) -> Result<Vec<u16>, Unasked> {
-    match read_while::<u16>(words, heap)? {
+    match read_while::<u16>(words, heap, NAMES)? {
         (names, Some("|")) => Ok(names),
         _ => Err(Unasked::Form),
     }
@@ -45,7 +51,7 @@ fn read_groups(words: &mut SplitWhitespace<'_>, heap: Global) -> Result<Groups, 
         return Ok(None);
     }
     let first = read_names(words, heap)?;
-    match read_while::<u16>(words, heap)? {
+    match read_while::<u16>(words, heap, NAMES)? {
         (second, None) => Ok(Some((first, second))),
         _ => Err(Unasked::Form),
     }

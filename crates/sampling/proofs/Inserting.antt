@@ -25,7 +25,7 @@ module _ (xs : List Slot) (s : List ℕ) (holds : xs ≡ map slot s) (x j : ℕ)
   abbrev Is : Slot → Type 0
   Is e = (e.key ∷ []) ≡ x ∷ []
 
-  as_many : length xs ≡ length s
+  pub as_many : length xs ≡ length s
   as_many = ap length holds ∙ length-map s slot
 
   slot_at : (i : ℕ) → i < length xs → get_or xs i (slot 0) ≡ slot (get_or s i 0)
