@@ -1,5 +1,5 @@
 // Scripts from lists of leaders.
-ghost use Rattle.std.specs.Prelude.{◌≡◌, Some, None, Ok, Err};
+ghost use Rattle.std.specs.Prelude.{◌≡◌, ◌≤◌, length, Some, None, Ok, Err};
 ghost use Rattle.refusals.specs.Refusals.{number_of};
 ghost use Rattle.electors.specs.Making.{leaders_fault};
 ghost use Rattle.electors.specs.States.{leaders_of, Answered};
@@ -41,7 +41,8 @@ impl<E: Elector> ElectorState<E> {
 impl<E> ElectorState<E> {
     // The leaders of the script.
     pub fn leaders(&self) -> &[usize]
-        ensures { result.now ≡ leaders_of self.now }
+        ensures value { result.now ≡ leaders_of self.now }
+        ensures few { length result.now ≤ 64 }
     {
         self.leaders.as_slice()
     }
