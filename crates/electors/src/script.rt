@@ -16,9 +16,10 @@ pub struct ElectorState<E> {
     ghost few: { length leaders.items ≤ 64 },
 }
 
-// Why a script is not made, and an empty one over the same elector.
+// Why a script is not made, and an empty one over the same elector. The script stands first: so it lies where a made one does, and
+// what `ElectorState::new` answers is copied once less.
 #[derive(Drop)]
 pub struct ScriptRefused<E> {
-    pub refusal: Refusal,
     pub script: ElectorState<E>,
+    pub refusal: Refusal,
 }
