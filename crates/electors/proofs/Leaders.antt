@@ -14,7 +14,7 @@ passed true false e = cc
 passed false false e = cc
 
 -- of leaders that are participants none is passed over
-if_below_nth : (count : ℕ) (leaders : List ℕ) (i : ℕ) → all_below count leaders ≡ true → if_below count (slice_get leaders i) ≡ slice_get leaders i
+pub if_below_nth : (count : ℕ) (leaders : List ℕ) (i : ℕ) → all_below count leaders ≡ true → if_below count (slice_get leaders i) ≡ slice_get leaders i
 if_below_nth count [] i e = refl
 if_below_nth count (x ∷ xs) zero e = cond-true (ltb x count) (Some x) None (and_parts _ _ e).0
 if_below_nth count (x ∷ xs) (suc i) e = if_below_nth count xs i (and_parts _ _ e).1

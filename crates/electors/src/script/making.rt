@@ -1,5 +1,5 @@
 // Scripts from lists of leaders.
-ghost use Rattle.std.specs.Prelude.{◌≡◌, Some, None, Ok, Err};
+ghost use Rattle.std.specs.Prelude.{◌≡◌, ◌≤◌, length, Some, None, Ok, Err};
 ghost use Rattle.refusals.specs.Refusals.{number_of};
 ghost use Rattle.electors.specs.Making.{leaders_fault};
 ghost use Rattle.electors.specs.States.{leaders_of, Answered};
@@ -9,15 +9,17 @@ use crate::elector::Elector;
 use arrayvec::ArrayVec;
 use refusals::Refusal;
 
-// The leaders, unless there are more than 64 or one is no participant.
-fn kept(count: usize, leaders: &[usize]) -> Result<ArrayVec<usize, 64>, Refusal>
-    ensures { elim result [ Ok kept ↦ (leaders_fault count leaders.now ≡ None) × (kept.items ≡ leaders.now) | Err e ↦ leaders_fault count leaders.now ≡ Some (number_of e) ] }
+// Refuses leaders of whom there are more than 64 or one is no participant.
+fn check(count: usize, leaders: &[usize]) -> Result<(), Refusal>
+    ensures { elim result [ Ok _ ↦ leaders_fault count leaders.now ≡ None | Err e ↦ leaders_fault count leaders.now ≡ Some (number_of e) ] }
 {
-    let kept = ArrayVec::try_from(leaders).map_err(|_| Refusal::ManyRounds)?;
+    if leaders.len() > 64 {
+        return Err(Refusal::ManyRounds);
+    }
     if !leaders.iter().all(|leader| *leader < count) {
         return Err(Refusal::LeaderOutOfRange);
     }
-    Ok(kept)
+    Ok(())
 }
 
 impl<E: Elector> ElectorState<E> {
@@ -25,8 +27,16 @@ impl<E: Elector> ElectorState<E> {
     pub fn new(below: E, leaders: &[usize]) -> Result<ElectorState<E>, ScriptRefused<E>>
         ensures { Answered E.Elector.counts E.Elector.terms E.Elector.elects below leaders.now result }
     {
-        match kept(below.participants(), leaders) {
-            Ok(leaders) => Ok(ElectorState { below, leaders }),
+        match check(below.participants(), leaders) {
+            Ok(()) => {
+                let mut kept = ArrayVec::new();
+                // It takes them all: there are at most 64.
+                let _ = kept.try_extend_from_slice(leaders);
+                Ok(ElectorState {
+                    below,
+                    leaders: kept,
+                })
+            }
             Err(refusal) => Err(ScriptRefused {
                 refusal,
                 script: ElectorState {
@@ -41,7 +51,8 @@ impl<E: Elector> ElectorState<E> {
 impl<E> ElectorState<E> {
     // The leaders of the script.
     pub fn leaders(&self) -> &[usize]
-        ensures { result.now ≡ leaders_of self.now }
+        ensures value { result.now ≡ leaders_of self.now }
+        ensures few { length result.now ≤ 64 }
     {
         self.leaders.as_slice()
     }

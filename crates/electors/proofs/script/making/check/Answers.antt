@@ -2,7 +2,7 @@ use Rattle.std.proofs.Common.{◌≡◌, true, ltb, sym, ◌∙◌, rules, tests
 use Rattle.std.proofs.lemmas.Iterator.{YieldsList-from_slice}
 use Rattle.std.proofs.lemmas.Iterator.Search.{all_from_yields_List}
 use Rattle.electors.specs.Making.{all_below}
-use Rattle.electors.proofs.script.making.kept.Goals as goal
+use Rattle.electors.proofs.script.making.check.Goals as goal
 
 pub returns : goal.returns
 returns c =
