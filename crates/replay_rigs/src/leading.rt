@@ -8,18 +8,24 @@ use std::str::SplitWhitespace;
 // How many scripts there are over an elector at most.
 const HEIGHT: u64 = 3;
 
-// One leader more than a script can have, so that one too many is refused.
-const LEADERS: usize = 65;
+// How many leaders a script has at most.
+const LEADERS: usize = 64;
 
-// The leaders of a script. One that is no number breaks the form, whatever its fault.
+// The leaders of a script. One that is no number breaks the form, whatever its fault, and so does
+// one too many: it is refused before any script is made, as a leader under it may be what is told.
 fn script_of(word: &str, heap: Global) -> Result<Vec<usize>, Unasked> {
     if word == "-" {
         return Ok(Vec::new(heap));
     }
-    word.split(',')
-        .take(LEADERS)
+    let leaders = word
+        .split(',')
+        .take(LEADERS + 1)
         .map(|leader| leader.parse::<usize>().map_err(|_| Unasked::Form))
-        .try_collect(heap)
+        .try_collect::<Vec<usize>>(heap)?;
+    if leaders.len() > LEADERS {
+        return Err(Unasked::Form);
+    }
+    Ok(leaders)
 }
 
 // A pile of scripts, the outermost first. One too high is not read.
