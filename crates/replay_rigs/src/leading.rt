@@ -11,8 +11,8 @@ const HEIGHT: u64 = 3;
 // How many leaders a script has at most.
 const LEADERS: usize = 64;
 
-// The leaders of a script. One that is no number breaks the form, whatever its fault, and so does
-// one too many: it is refused before any script is made, as a leader under it may be what is told.
+// The leaders of a script. One that is no number breaks the form, whatever its fault. So does one
+// too many: refused only when the script is made, it would come after the faults of those below.
 fn script_of(word: &str, heap: Global) -> Result<Vec<usize>, Unasked> {
     if word == "-" {
         return Ok(Vec::new(heap));

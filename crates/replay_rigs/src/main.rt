@@ -55,3 +55,64 @@ fn main(rt: HostRuntime) -> io::Result<()> {
     ask_all::<Kind, _, _>(input, heap, &mut out, &mut memory)?;
     out.flush()
 }
+
+#[cfg(test)]
+mod tests {
+    use super::{Entry, Kind, RANKS, RankSlot, ask_all};
+    use std::alloc::{AllocError, Global};
+    use std::process::Abort;
+    use std::test::Fail;
+
+    // The word so many times.
+    fn times(heap: Global, word: &str, count: usize) -> Result<String, AllocError> {
+        let mut words = String::new(heap);
+        for _ in 0..count {
+            words.push_str(word)?;
+        }
+        Ok(words)
+    }
+
+    // Whether the line agrees or not, as expected.
+    fn asked(rt: &impl Abort, heap: Global, line: &str, agrees: bool) -> Result<(), Fail> {
+        let mut memory: Vec<RankSlot> = vec![in heap; Entry { key: 0, value: () }; RANKS]?;
+        let mut out = Vec::<u8>::new(heap);
+        ask_all::<Kind, _, _>(line.as_bytes(), heap, &mut out, &mut memory)?;
+        let told = out.starts_with(b"line 1 does not agree\n");
+        assert!(rt; told != agrees, "{}", line);
+        Ok(())
+    }
+
+    #[test]
+    fn a_tape_has_at_most_255_words(rt: HostRuntime) -> Result<(), Fail> {
+        let heap = rt.alloc();
+        for (count, agrees) in [(255, true), (256, false)] {
+            let tape = times(heap, " 1", count)?;
+            let line = format!(in heap; "shuffle 2{tape} | 0 1")?;
+            asked(&rt, heap, &line, agrees)?;
+        }
+        Ok(())
+    }
+
+    #[test]
+    fn a_script_has_at_most_15_rounds(rt: HostRuntime) -> Result<(), Fail> {
+        let heap = rt.alloc();
+        for (count, agrees) in [(15, true), (16, false)] {
+            let rounds = times(heap, " 0:1:2", count)?;
+            let line = format!(in heap; "partitions{rounds} 1 1 7 8 | 7 | 8")?;
+            asked(&rt, heap, &line, agrees)?;
+        }
+        Ok(())
+    }
+
+    // The script below it has a leader that is no participant, which is what the line tells.
+    #[test]
+    fn a_script_over_an_elector_has_at_most_64_leaders(rt: HostRuntime) -> Result<(), Fail> {
+        let heap = rt.alloc();
+        for (count, agrees) in [(64, true), (65, false)] {
+            let leaders = times(heap, ",1", count - 1)?;
+            let line = format!(in heap; "elect 2 1{leaders} 9 0 5 7 rot panic")?;
+            asked(&rt, heap, &line, agrees)?;
+        }
+        Ok(())
+    }
+}
